@@ -1,7 +1,6 @@
 -- What the lines of each command tell of nodes' lives, command by command.
-use Rattle.std.proofs.Common.{◌≡◌, ℕ, ◌+◌, ◌<◌, ◌≤◌, nat_lt, Bool, true, false, List, [], ◌∷◌, ◌++◌, length, map, All, refl, sym, ap, ◌∙◌, subst, inl, inr, arith}
+use Rattle.std.proofs.Common.{◌≡◌, ℕ, ◌+◌, ◌<◌, ◌≤◌, nat_lt, Bool, ◌||◌, true, false, true≢false, List, [], ◌∷◌, ◌++◌, length, All, refl, sym, ap, ◌∙◌, subst, inl, inr, arith}
 use mathlib.Core.Logic.{◌⊎◌}
-use Rattle.std.specs.List.{flat_map}
 use Rattle.std.proofs.lemmas.List.{get_or_append_left, get_or_push, length_push}
 use Rattle.std.proofs.lemmas.List.Elements.{All-nil, All-cons, All-append}
 use Rattle.gc_graph.specs.declared.command.Command.{Command}
@@ -23,8 +22,7 @@ use Rattle.gc_graph.specs.History.{node_of, region_slot}
 use Rattle.gc_graph.specs.Outcomes.{answered, IsRefused, IsMemory, finalise_lines, slot_at, took}
 use Rattle.gc_graph.specs.ObjectSteps.{StepNew, IsMade}
 use Rattle.gc_graph.specs.CycleSteps.{is_marking, is_sweeping, is_stack_refused, IsStart, StepGcStart, StepGcStep, IsPause, StepGcFinish, IsCollection, StepGcNow, StepSweepTo}
-use Rattle.gc_graph.specs.RegionSteps.{Answer, queued, threads_with_orders, reply_line, line_of_content, IsImported, StepExport, StepImport, StepThreadsJoin}
-use Rattle.gc_graph.specs.RegionSteps.Answer.{Replied, Told}
+use Rattle.gc_graph.specs.RegionSteps.{line_of_content, IsImported, StepExport, StepImport}
 use Rattle.gc_graph.specs.Step.{Step}
 use Rattle.gc_graph.proofs.StepCases.{match_option, match_bool}
 use Rattle.gc_graph.proofs.Sound.{IsSound}
@@ -32,7 +30,11 @@ use Rattle.gc_graph.proofs.NodeWrites.{IsLikeNode, like_same, LookSame, look_sam
 use Rattle.gc_graph.proofs.FieldWrites.{with_values, like_with}
 use Rattle.gc_graph.proofs.Effects.{Effect, line_of_effect, with_effect, IsReadable, Fits, nodes_by}
 use Rattle.gc_graph.proofs.Effects.Effect.{Gets}
+use Rattle.gc_graph.specs.Commands.Family.{Threads}
+use Rattle.gc_graph.specs.Families.{answers, StaysInFamily}
+use Rattle.gc_graph.specs.LineKinds.{tells_that_nothing_was_done, tells_of_orders}
 use Rattle.gc_graph.proofs.PlainSteps.{plain_step}
+use Rattle.gc_graph.proofs.FamilyFrames.{steps_stay_in_their_family}
 use Rattle.gc_graph.specs.Condemning.{length-condemn}
 use Rattle.gc_graph.proofs.Condemned.{condemned_at}
 use Rattle.gc_graph.proofs.ValidCases.{bool_is}
@@ -327,32 +329,28 @@ import_tells : (setup : Setup) (old new : State) (x p : ℕ) (piece : List Entry
 import_tells setup old new x p piece lines g h =
     elim h [ inl memory ↦ memory_tells old new lines memory.1 | inr done ↦ imported_tells setup old new x p piece lines g done ]
 
-reply_quiet : (j : ℕ) (answer : Answer) → IsQuiet (reply_line j answer)
-reply_quiet j (Replied reply) = refl
-reply_quiet j (Told o n u f) = refl
+-- commands on threads tell nothing of nodes, and leave them alone
+order_quiet : (said : Line) → tells_of_orders said ≡ true → IsQuiet said
+order_quiet (L.Placed n a) is = absurd (true≢false (sym is))
+order_quiet (L.Finalise n) is = absurd (true≢false (sym is))
+order_quiet (L.Pause kept dead crew traced walked) is = absurd (true≢false (sym is))
+order_quiet (L.Node n) is = absurd (true≢false (sym is))
+order_quiet said is = refl
 
-replies_quiet : (j : ℕ) (answers : List Answer) → All IsQuiet (map (reply_line j) answers)
-replies_quiet j [] = All-nil IsQuiet
-replies_quiet j (answer ∷ answers) = All-cons IsQuiet (reply_line j answer) (map (reply_line j) answers) (reply_quiet j answer) (replies_quiet j answers)
+answer_quiet : (said : Line) → (tells_that_nothing_was_done said || answers Threads said) ≡ true → IsQuiet said
+answer_quiet (L.Placed n a) is = absurd (true≢false (sym is))
+answer_quiet (L.Finalise n) is = absurd (true≢false (sym is))
+answer_quiet (L.Pause kept dead crew traced walked) is = absurd (true≢false (sym is))
+answer_quiet (L.Node n) is = absurd (true≢false (sym is))
+answer_quiet said is = refl
 
-all_replies_quiet : (threads : List ℕ) (answers : ℕ → List Answer) → All IsQuiet (flat_map (λ j. map (reply_line j) (answers j)) threads)
-all_replies_quiet [] answers = All-nil IsQuiet
-all_replies_quiet (j ∷ threads) answers =
-    All-append IsQuiet (map (reply_line j) (answers j)) (flat_map (λ k. map (reply_line k) (answers k)) threads) (replies_quiet j (answers j)) (all_replies_quiet threads answers)
-
-entries_quiet : (entries : List Entry) → All IsQuiet (map (λ entry. L.Entry entry) entries)
-entries_quiet [] = All-nil IsQuiet
-entries_quiet (entry ∷ entries) = All-cons IsQuiet (L.Entry entry) (map (λ e. L.Entry e) entries) refl (entries_quiet entries)
-
-join_tells : (old new : State) (piece : List Entry) (lines : List Line) → StepThreadsJoin old piece lines new → Tells old lines new
-join_tells old new piece lines h =
-    let nodes : new.nodes ≡ old.nodes = ap (λ (s : State). s.nodes) h.after ∙ took_nodes old piece in
+threads_tell : (old new : State) (piece : List Entry) (lines : List Line) → StaysInFamily Threads old piece lines new → Tells old lines new
+threads_tell old new piece lines h =
     let quiet : All IsQuiet lines =
-    subst (All IsQuiet) (sym h.lines_are)
-    (All-append IsQuiet _ _
-    (All-append IsQuiet _ _ (all_replies_quiet old.running h.answers) (entries_quiet (took old piece).unprinted))
-    (quiet_one (L.Joined (length old.running)) refl)) in
-    subst (λ ns. StepTells old.nodes lines ns) (sym nodes) (record {
+    subst (All IsQuiet) (sym h.told.lines_are)
+    (All-append IsQuiet h.told.before (h.told.answer ∷ h.told.after) (λ i d low. order_quiet _ (h.told.first i d low))
+    (subst (λ after. All IsQuiet (h.told.answer ∷ after)) (sym h.told.then) (quiet_one h.told.answer (answer_quiet h.told.answer h.told.fits)))) in
+    subst (λ ns. StepTells old.nodes lines ns) (sym (ap (λ (s : State). s.nodes) h.rest)) (record {
       told = quiet_told lines old.nodes old.nodes quiet (look_same old.nodes);
       dead = λ n c. absurd (quiet_finalises_none lines quiet n c);
       made = none_made old.nodes old.nodes (omega arith);
@@ -377,16 +375,8 @@ step_tells setup old new C.SweepAll piece lines g k h = sweep_to_tells setup old
 step_tells setup old new C.Stat piece lines g k h = quiet_still old new (answered old) lines _ refl h.1.2 h.1.3 refl
 step_tells setup old new (C.Export p x) piece lines g k h = export_tells old new p x piece lines h
 step_tells setup old new (C.Import x p) piece lines g k h = import_tells setup old new x p piece lines g h
-step_tells setup old new (C.At j order) piece lines g k h =
-    elim h.1 [
-      | inl memory ↦ memory_tells old new lines memory
-      | inr d ↦ quiet_still old new (answered (queued old j order)) lines L.Queued refl d.0 d.1 refl
-    ]
-step_tells setup old new C.ThreadsGo piece lines g k h =
-    elim h.1 [
-      | inl d ↦ quiet_still old new _ lines L.Memory refl d.0 d.1 refl
-      | inr d ↦ quiet_still old new _ lines (L.Going (length (threads_with_orders old))) refl d.0 d.1 refl
-    ]
-step_tells setup old new C.ThreadsJoin piece lines g k h = join_tells old new piece lines h
+step_tells setup old new (C.At j order) piece lines g k h = threads_tell old new piece lines (steps_stay_in_their_family setup old (C.At j order) piece lines new h)
+step_tells setup old new C.ThreadsGo piece lines g k h = threads_tell old new piece lines (steps_stay_in_their_family setup old C.ThreadsGo piece lines new h)
+step_tells setup old new C.ThreadsJoin piece lines g k h = threads_tell old new piece lines (steps_stay_in_their_family setup old C.ThreadsJoin piece lines new h)
 step_tells setup old new command piece lines g k h =
     let c = plain_step setup old new command piece lines refl h in effect_tells setup old new command lines c.effect g c.fits c.lines_are c.after

@@ -152,13 +152,14 @@ both_cycle old mid new xs ys a b =
     ∙ ap (After (replayed old.region (xs ++ ys))) (append_assoc old.unprinted xs ys)
 
 owners : (old s : State) (piece before : List Entry) (own : Entry) → s.running ≡ old.running → AreOthers s before → piece ≡ before ++ own ∷ [] → own.thread ≡ 0
-    → EndsWithOwners old piece
-owners old s piece before own same others is owner = record {
+    → (IsThreadOp own.op → ⊥) → EndsWithOwners old piece
+owners old s piece before own same others is owner does = record {
   before = before;
   own = own;
   others = subst (λ (running : List ℕ). All (λ (entry : Entry). Contains running entry.thread × IsThreadOp entry.op) before) same others;
   piece_is = is;
   owner = owner;
+  does = does;
 }
 
 -- ---- commands that sweep
@@ -236,7 +237,7 @@ start_stays setup old new piece lines h =
           (let swept : SweepElse old b.swept = swept_else old.phase setup.shape old b.swept setup.shape.pages b.numbers b.ended in
           after_sweep Cycle old piece lines new b.numbers L.Started (b.numbers, refl) refl
           (counted old b.started new piece b.after (swept_cycle old b.swept b.started piece swept (start_cycle setup b.swept b.started piece b.start)))
-          (inr (inl (owners old b.swept piece b.start.before _ (ap (λ (s : State). s.running) swept) b.start.others b.start.piece_is refl))) b.lines_are)
+          (inr (inl (owners old b.swept piece b.start.before _ (ap (λ (s : State). s.running) swept) b.start.others b.start.piece_is refl (λ t. t)))) b.lines_are)
     ]) h
 
 -- a pause, after nodes that were finalised
@@ -265,7 +266,7 @@ finish_stays setup want old new piece lines h =
     match_bool (is_marking old.phase) _ _ (StaysInFamily Cycle old piece lines new)
     (λ rest. match_bool (is_stack_refused want old.stack) _ _ (StaysInFamily Cycle old piece lines new) (λ r. refused Cycle old piece lines new R.Stack r.0 r.1)
     (λ f. paused_stays setup setup.markers want old old f.0 new piece piece [] lines lines (pause_cycle setup setup.markers want old f.0 piece lines f.1) f.1 f.2 refl
-    (inr (inl (owners old old piece f.1.before _ refl f.1.others f.1.piece_is refl)))) rest)
+    (inr (inl (owners old old piece f.1.before _ refl f.1.others f.1.piece_is refl (λ t. t))))) rest)
     (λ r. refused Cycle old piece lines new R.Phase r.0 r.1) h
 
 now_stays : (setup : Setup) (want : Want) (old new : State) (piece : List Entry) (lines : List Line) → StepGcNow setup want old piece lines new
@@ -287,8 +288,8 @@ now_stays setup want old new piece lines h =
             c.first,
             c.second,
             c.piece_is,
-            owners old c.swept c.first c.start.before _ (ap (λ (s : State). s.running) swept) c.start.others c.start.piece_is refl,
-            owners old c.started c.second c.pause.before _ (ap (λ (s : State). s.running) started) c.pause.others c.pause.piece_is refl,
+            owners old c.swept c.first c.start.before _ (ap (λ (s : State). s.running) swept) c.start.others c.start.piece_is refl (λ t. t),
+            owners old c.started c.second c.pause.before _ (ap (λ (s : State). s.running) started) c.pause.others c.pause.piece_is refl (λ t. t),
           ))))
     ]) rest) h
 
@@ -302,7 +303,7 @@ export_stays old new p x piece lines h =
       | inr e ↦
           one Region old piece lines new L.Fine refl
           (subst (StaysElse Region old piece) (sym e.after) (subst (λ s. StaysElse Region old piece (answered s)) (sym (took_else old piece)) refl))
-          (inr (owners old old piece e.before _ refl e.takes.others e.takes.piece_is refl)) e.lines_are
+          (inr (owners old old piece e.before _ refl e.takes.others e.takes.piece_is refl (λ t. t))) e.lines_are
     ]) h
 
 content_answers : (content : Option ℕ) → (tells_that_nothing_was_done (line_of_content content) || answers Region (line_of_content content)) ≡ true
@@ -316,7 +317,7 @@ import_stays old new x p piece lines h = elim h [
       (let content : Option ℕ = node_of (region_slot (took old i.before).region x) in
       one Region old piece lines new (line_of_content content) (content_answers content)
       (subst (StaysElse Region old piece) (sym i.after) (subst (λ s. StaysElse Region old piece (answered (with_slot s p content))) (sym (took_else old piece)) refl))
-      (inr (owners old old piece i.before _ refl i.takes.others i.takes.piece_is refl)) i.lines_are)
+      (inr (owners old old piece i.before _ refl i.takes.others i.takes.piece_is refl (λ t. t))) i.lines_are)
 ]
 
 reply_told : (j : ℕ) (answer : Answer) → tells_of_orders (reply_line j answer) ≡ true

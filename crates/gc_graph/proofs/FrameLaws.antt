@@ -19,7 +19,7 @@ use Rattle.gc_graph.specs.May.{read_node}
 use Rattle.gc_graph.specs.Outcomes.{answered, IsRefused, took, slot_at, with_slot}
 use Rattle.gc_graph.specs.ObjectSteps.{first_word, with_node, with_new, part_of, StepNew}
 use Rattle.gc_graph.specs.CycleSteps.{IsPause, is_marking, is_sweeping, is_stack_refused, StepGcStart, StepGcFinish, StepGcNow, StepSweepTo}
-use Rattle.gc_graph.specs.RegionSteps.{StepExport, StepImport, StepThreadsJoin}
+use Rattle.gc_graph.specs.RegionSteps.{StepExport, StepImport}
 use Rattle.gc_graph.specs.Step.{Step}
 use Rattle.gc_graph.specs.FrameLaw.{IsSameCycle, LeavesRest, StepsLeaveRest, FieldsTakeTurns}
 use Rattle.gc_graph.specs.Commands.{WritesSlot, WritesWeakSlot, WritesStack, WritesRegistrations, WritesWord, MovesCycle}
@@ -28,10 +28,33 @@ use Rattle.gc_graph.proofs.Shapes.{word_at, word_at_is}
 use Rattle.gc_graph.proofs.FieldWrites.{with_pair, with_values}
 use Rattle.gc_graph.proofs.Effects.{Effect, with_effect, WritesField, Fits}
 use Rattle.gc_graph.proofs.Effects.Effect.{Refuses, Tells, Fills, Empties, Gets, Weakens, Stacks, Sets, Puts, Pairs}
+use Rattle.gc_graph.specs.Commands.Family.{Threads}
+use Rattle.gc_graph.specs.Families.{StaysInFamily}
 use Rattle.gc_graph.proofs.PlainSteps.{plain_step}
+use Rattle.gc_graph.proofs.FamilyFrames.{steps_stay_in_their_family}
 use Rattle.gc_graph.proofs.NodeWrites.{node_after}
 use Rattle.gc_graph.proofs.AccessLaws.{one_or_more, two_in_pair}
 use Rattle.gc_graph.proofs.StepFrames.{Keeps, keeps_same, keeps_more, keeps_read, keeps_took, keeps_start, keeps_sweep, cycle_same, cycle_read, cycle_took}
+
+unchanged : (old : State) (x : State) → x.slots ≡ old.slots → x.weak ≡ old.weak → x.stack ≡ old.stack → x.registrations ≡ old.registrations
+    → x.nodes ≡ old.nodes → Keeps old x
+unchanged old x a b c d e = record {
+  slots = a;
+  weak = b;
+  stack = c;
+  registrations = d;
+  count = ap length e;
+  objects = λ n. ap (λ nodes. (node_at nodes n).object) e;
+}
+
+unmoved : (old : State) (x : State) → x.phase ≡ old.phase → x.cursor ≡ old.cursor → x.traced ≡ old.traced → x.nodes ≡ old.nodes → IsSameCycle old x
+unmoved old x a b c d = record {
+  phase = a;
+  cursor = b;
+  traced = c;
+  count = ap length d;
+  lives = λ n. ap (λ nodes. (node_at nodes n).life) d;
+}
 
 module _ (old new : State) (command : Command) where
   -- ---- one part is written
@@ -197,12 +220,9 @@ module _ (old new : State) (command : Command) where
         weak_count = length-map (took mid p.before).weak _ ∙ ap length (taken.weak ∙ k.weak);
       })
 
-  join : (piece : List Entry) (lines : List Line) → StepThreadsJoin old piece lines new → LeavesRest old command new
-  join piece lines h =
-      let k = keeps_took old piece in
-      let c = cycle_took old piece in
-      still _ (record { slots = k.slots; weak = k.weak; stack = k.stack; registrations = k.registrations; count = k.count; objects = k.objects })
-      (λ not. record { phase = c.phase; cursor = c.cursor; traced = c.traced; count = c.count; lives = c.lives }) h.after
+  -- a command on threads
+  on_threads : (piece : List Entry) (lines : List Line) → StaysInFamily Threads old piece lines new → LeavesRest old command new
+  on_threads piece lines h = still _ (unchanged old _ refl refl refl refl refl) (λ not. unmoved old _ refl refl refl refl) h.rest
 
 -- ---- the longer commands
 
@@ -263,26 +283,6 @@ import_leaves old new x p piece lines h = elim h [
   | inr i ↦ slotted old new (C.Import x p) (took old piece) p _ (λ z same. same) (keeps_took old piece) (cycle_took old piece) i.after
 ]
 
-unchanged : (old : State) (x : State) → x.slots ≡ old.slots → x.weak ≡ old.weak → x.stack ≡ old.stack → x.registrations ≡ old.registrations
-    → x.nodes ≡ old.nodes → Keeps old x
-unchanged old x a b c d e = record {
-  slots = a;
-  weak = b;
-  stack = c;
-  registrations = d;
-  count = ap length e;
-  objects = λ n. ap (λ nodes. (node_at nodes n).object) e;
-}
-
-unmoved : (old : State) (x : State) → x.phase ≡ old.phase → x.cursor ≡ old.cursor → x.traced ≡ old.traced → x.nodes ≡ old.nodes → IsSameCycle old x
-unmoved old x a b c d = record {
-  phase = a;
-  cursor = b;
-  traced = c;
-  count = ap length d;
-  lives = λ n. ap (λ nodes. (node_at nodes n).life) d;
-}
-
 -- ---- every command
 
 leaves : (setup : Setup) (old new : State) (command : Command) (piece : List Entry) (lines : List Line) → Step setup old command piece lines new
@@ -299,15 +299,12 @@ leaves setup old new C.SweepAll piece lines h = sweep_to old new C.SweepAll setu
 leaves setup old new C.Stat piece lines h = still old new C.Stat old (keeps_same old) (λ not. cycle_same old) h.1.3
 leaves setup old new (C.Export p x) piece lines h = export_leaves old new p x piece lines h
 leaves setup old new (C.Import x p) piece lines h = import_leaves old new x p piece lines h
-leaves setup old new (C.At j order) piece lines h = elim h.1 [
-  | inl m ↦ still old new (C.At j order) old (keeps_same old) (λ not. cycle_same old) m.1
-  | inr d ↦ still old new (C.At j order) _ (unchanged old _ refl refl refl refl refl) (λ not. unmoved old _ refl refl refl refl) d.1
-]
-leaves setup old new C.ThreadsGo piece lines h = elim h.1 [
-  | inl d ↦ still old new C.ThreadsGo _ (unchanged old _ refl refl refl refl refl) (λ not. unmoved old _ refl refl refl refl) d.1
-  | inr d ↦ still old new C.ThreadsGo _ (unchanged old _ refl refl refl refl refl) (λ not. unmoved old _ refl refl refl refl) d.1
-]
-leaves setup old new C.ThreadsJoin piece lines h = join old new C.ThreadsJoin piece lines h
+leaves setup old new (C.At j order) piece lines h =
+    on_threads old new (C.At j order) piece lines (steps_stay_in_their_family setup old (C.At j order) piece lines new h)
+leaves setup old new C.ThreadsGo piece lines h =
+    on_threads old new C.ThreadsGo piece lines (steps_stay_in_their_family setup old C.ThreadsGo piece lines new h)
+leaves setup old new C.ThreadsJoin piece lines h =
+    on_threads old new C.ThreadsJoin piece lines (steps_stay_in_their_family setup old C.ThreadsJoin piece lines new h)
 leaves setup old new command piece lines h =
     let c = plain_step setup old new command piece lines refl h in effect_leaves old new command lines c.effect c.fits c.after
 

@@ -14,7 +14,7 @@ use Rattle.gc_graph.specs.Fields.{kind_of_field, is_reference, is_pair}
 use Rattle.gc_graph.specs.Fields as P
 use Rattle.gc_graph.specs.Outcomes.{answered, IsRefused, with_slot}
 use Rattle.gc_graph.specs.ObjectSteps.{first_word, with_node}
-use Rattle.gc_graph.specs.Commands.{WritesWeakSlot, WritesStack, WritesWord, told, Family, family_of}
+use Rattle.gc_graph.specs.Commands.{WritesWeakSlot, WritesStack, WritesWord, told, Family, family_of, own_reads}
 use Rattle.gc_graph.specs.LineKinds.{tells_that_nothing_was_done}
 use Rattle.gc_graph.specs.Families.{StaysElse, TakesPiece, answers, TellsBefore, TellsAfter, StaysInFamily}
 use Rattle.gc_graph.specs.Commands.Family.{Objects, Fields, Pairs, Slots, Stack, Cycle, Sweeps, Region, Threads}
@@ -98,7 +98,7 @@ slot_else Slots old q content plain = refl
 slot_else Stack old q content plain = refl
 slot_else family old q content plain = absurd (true≢false (sym plain))
 
--- a weak read lets more be kept: no command on the stack reads weakly
+-- a weak read lets more be kept
 weakly_else : (family : Family) (old : State) (q n : ℕ) → is_plain family ≡ true → (family ≡ Stack → ⊥) → StaysElse family old [] (answered (with_effect old (Gets true q n)))
 weakly_else Fields old q n plain other = refl
 weakly_else Pairs old q n plain other = refl
@@ -106,13 +106,19 @@ weakly_else Slots old q n plain other = refl
 weakly_else Stack old q n plain other = absurd (other refl)
 weakly_else family old q n plain other = absurd (true≢false (sym plain))
 
+-- no command on the stack reads weakly
+reads_none : (old : State) (command : Command) (lines : List Line) → family_of command ≡ Stack → own_reads old command lines ≡ []
+reads_none old (C.Get p f q) lines e = cc
+reads_none old (C.Key p f q) lines e = cc
+reads_none old (C.Val p f q) lines e = cc
+reads_none old (C.Read w p) lines e = cc
+reads_none old command lines e = refl
+
 read_else : (old : State) (command : Command) (lines : List Line) (q n : ℕ) → is_plain (family_of command) ≡ true → ReadsNode true old command lines q n
     → lines ≡ L.Node n ∷ [] → StaysElse (family_of command) old [] (answered (with_effect old (Gets true q n)))
-read_else old (C.Push p o) lines q n plain fits is = absurd fits.writes
-read_else old (C.PushPlain w) lines q n plain fits is = absurd fits.writes
-read_else old C.Pop lines q n plain fits is = absurd fits.writes
-read_else old (C.Peek i r) lines q n plain fits is = (let none : [] ≡ n ∷ [] = fits.reads refl ∙ ap told is in absurd cc)
-read_else old command lines q n plain fits is = weakly_else (family_of command) old q n plain (λ e. cc)
+read_else old command lines q n plain fits is =
+    weakly_else (family_of command) old q n plain
+    (λ e. (let none : [] ≡ n ∷ [] = sym (reads_none old command lines e) ∙ fits.reads refl ∙ ap told is in absurd cc))
 
 weak_else : (old : State) (command : Command) (w : ℕ) (content : Option ℕ) → is_plain (family_of command) ≡ true → WritesWeakSlot command w
     → StaysElse (family_of command) old [] (answered (with_effect old (Weakens w content)))

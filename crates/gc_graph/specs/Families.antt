@@ -8,7 +8,7 @@ use Rattle.gc_graph.specs.State.{Setup, State, Registration}
 use Rattle.gc_graph.specs.Pause.{prefinalise_lines}
 use Rattle.gc_graph.specs.CycleSteps.{is_marking}
 use Rattle.gc_graph.specs.History.{replayed}
-use Rattle.gc_graph.specs.Outcomes.{finalise_lines, AreOthers}
+use Rattle.gc_graph.specs.Outcomes.{finalise_lines, IsThreadOp, AreOthers}
 use Rattle.gc_graph.specs.CountsLaw.{tells_pause}
 use Rattle.gc_graph.specs.LineKinds.{tells_that_nothing_was_done, tells_node, tells_ok, tells_place, tells_word, tells_start, tells_step, tells_sweep, tells_objects, tells_queued, tells_going}
 use Rattle.gc_graph.specs.Step.{Step}
@@ -71,13 +71,14 @@ StaysElse Threads old piece new =
 
 -- ---- the region's history
 
--- entries of threads that run, and then one of the owner
+-- entries of threads that run, and then one of the owner, which does what no thread does
 pub record EndsWithOwners (old : State) (piece : List Entry) : Type 0 where
   pub before : List Entry
   pub own : Entry
   pub others : AreOthers old before
   pub piece_is : piece ≡ before ++ own ∷ []
   pub owner : own.thread ≡ 0
+  pub does : IsThreadOp own.op → ⊥
 
 -- a whole collection takes a piece for its start, and one for its pause
 abbrev pub EndsTwice : State → List Entry → Type 0
