@@ -1,6 +1,6 @@
 -- Each count goes up by the lines that tell of it.
-use Rattle.std.proofs.Common.{◌≡◌, ℕ, ◌+◌, Bool, true, false, List, [], ◌∷◌, ◌++◌, length, map, Option, Some, None, refl, sym, ap, ◌∙◌, subst, inl, inr, arith, All, if◌then◌else◌}
-use Rattle.std.specs.List.{flat_map, count_by}
+use Rattle.std.proofs.Common.{◌≡◌, ℕ, ◌+◌, Bool, true, false, List, [], ◌∷◌, ◌++◌, length, refl, sym, ap, ◌∙◌, subst, inl, inr, arith, All, if◌then◌else◌, ◌||◌, true≢false}
+use Rattle.std.specs.List.{count_by}
 use Rattle.std.proofs.lemmas.List.Sums.{sum_by-cons, sum_by-append}
 use Rattle.std.proofs.lemmas.List.Elements.{All-nil, All-cons, All-head, All-tail, All-append}
 use Rattle.gc_graph.specs.declared.command.Command.{Command}
@@ -14,19 +14,20 @@ use Rattle.gc_graph.specs.declared.phase.Phase.{Phase}
 use Rattle.gc_graph.specs.declared.phase.Phase.TheVariants.{Idle, Marking, Sweeping}
 use Rattle.gc_graph.specs.declared.region.Entry.{Entry}
 use Rattle.gc_graph.specs.State.{Setup, Shape, State, Registration, Node}
-use Rattle.gc_graph.specs.History.{node_of, region_slot}
 use Rattle.gc_graph.specs.Sweep.{SweepsInPhase, SweepsTo}
-use Rattle.gc_graph.specs.Outcomes.{answered, IsRefused, finalise_lines, with_entry, took, slot_at}
+use Rattle.gc_graph.specs.Outcomes.{answered, IsRefused, finalise_lines, with_entry, took}
 use Rattle.gc_graph.specs.Pause.{live_count, dead_count, run_order, prefinalise_lines, condemn, paused}
 use Rattle.gc_graph.specs.ObjectSteps.{StepNew}
 use Rattle.gc_graph.specs.CycleSteps.{IsStart, IsPause, is_marking, is_sweeping, is_stack_refused, StepGcStart, StepGcFinish, StepGcNow, StepSweepTo}
-use Rattle.gc_graph.specs.RegionSteps.{Answer, reply_line, line_of_content, StepExport, StepImport, StepThreadsJoin}
-use Rattle.gc_graph.specs.RegionSteps.Answer.{Replied, Told}
 use Rattle.gc_graph.specs.Step.{Step}
 use Rattle.gc_graph.specs.CountsLaw.{tells_pause, tells_finalisation, tells_full, AreCountedByLines, StepsCountLines}
 use Rattle.gc_graph.proofs.StepCases.{match_option, match_bool}
-use Rattle.gc_graph.proofs.Effects.{line_of_effect, with_effect, told_by, same_else, ComesOut}
-use Rattle.gc_graph.proofs.PlainSteps.{plain_step}
+use Rattle.gc_graph.specs.Commands.{Family, family_of}
+use Rattle.gc_graph.specs.Commands.Family.{Objects, Cycle, Sweeps, Threads}
+use Rattle.gc_graph.specs.LineKinds.{tells_that_nothing_was_done, tells_of_orders}
+use Rattle.gc_graph.specs.Families.{answers, TellsBefore, TellsAfter, StaysInFamily}
+use Rattle.gc_graph.proofs.FamilyFrames.{steps_stay_in_their_family}
+use Rattle.gc_graph.proofs.FamilyRests.{counted_one}
 
 -- ---- lines that tell of no count
 
@@ -185,15 +186,6 @@ module _ (old new : State) (lines : List Line) where
   memory : (lines ≡ L.Memory ∷ []) × (new ≡ answered old) → AreCountedByLines old lines new
   memory m = plain old L.Memory (refl, refl, refl) (same old) m.0 m.1
 
-  -- a plain command
-  comes_out : (command : Command) (piece : List Entry) → ComesOut old command piece lines new → AreCountedByLines old lines new
-  comes_out command piece c =
-      let alike = same_else old c.effect in
-      like (with_effect old c.effect) (line_of_effect c.effect)
-      (told_by IsUncounted (λ why. (refl, refl, refl)) (refl, refl, refl) (refl, refl, refl) (λ n. (refl, refl, refl)) (λ w. (refl, refl, refl)) c.effect)
-      (ap (λ (s : State). s.ordinal) alike) (ap (λ (s : State). s.pauses) alike) (ap (λ (s : State). s.finalised) alike)
-      (ap (λ (s : State). s.full) alike) c.lines_are c.after
-
   -- finalisations, and then one line
   after_sweep : (shape : Shape) (mid x : State) (pages : ℕ) (numbers : List ℕ) (last : List Line) → SweepsTo shape old pages numbers mid
       → Raises mid last x → lines ≡ finalise_lines numbers ++ last → new ≡ answered x → AreCountedByLines old lines new
@@ -256,51 +248,81 @@ module _ (old new : State) (lines : List Line) where
             (pause_raises setup 0 want c.started c.paused c.second c.pause_lines c.pause)) c.lines_are c.after
       ]) rest) h
 
-  export_counts : (p x : ℕ) (piece : List Entry) → StepExport old p x piece lines new → AreCountedByLines old lines new
-  export_counts p x piece h =
-      match_option (slot_at old p) _ _ _ (λ r. refused R.Null r.1)
-      (λ n done. elim done [
-        | inl m ↦ memory m.1
-        | inr e ↦ plain (took old piece) L.Fine (refl, refl, refl) (took_same old piece) e.lines_are e.after
-      ]) h
+-- ---- the families that count nothing but commands
 
-  content_uncounted : (content : Option ℕ) → IsUncounted (line_of_content content)
-  content_uncounted None = (refl, refl, refl)
-  content_uncounted (Some n) = (refl, refl, refl)
+abbrev counts_none : Family → Bool
+counts_none Objects = false
+counts_none Cycle = false
+counts_none Sweeps = false
+counts_none family = true
 
-  import_counts : (x p : ℕ) (piece : List Entry) → StepImport old x p piece lines new → AreCountedByLines old lines new
-  import_counts x p piece h = elim h [
-    | inl m ↦ memory m.1
-    | inr i ↦
-        (let k = took_same old piece in
-        like _ (line_of_content (node_of (region_slot (took old i.before).region x))) (content_uncounted _) k.ordinal k.pauses k.finalised k.full i.lines_are i.after)
-  ]
+-- the line is none that is counted
+abbrev is_counted : Line → Bool
+is_counted (L.Pause kept dead crew traced walked) = true
+is_counted (L.Finalise n) = true
+is_counted L.Full = true
+is_counted other = false
 
--- ---- a join
+uncounted_line : (line : Line) → is_counted line ≡ false → IsUncounted line
+uncounted_line (L.Pause kept dead crew traced walked) e = absurd (true≢false e)
+uncounted_line (L.Finalise n) e = absurd (true≢false e)
+uncounted_line L.Full e = absurd (true≢false e)
+uncounted_line other e = (refl, refl, refl)
 
-all_replies : (j : ℕ) (answers : List Answer) → All IsUncounted (map (reply_line j) answers)
-all_replies j [] = All-nil IsUncounted
-all_replies j (Replied reply ∷ answers) = All-cons IsUncounted (L.Reply j reply) (map (reply_line j) answers) (refl, refl, refl) (all_replies j answers)
-all_replies j (Told o n u f ∷ answers) = All-cons IsUncounted (L.ReplyTotals j o n u f) (map (reply_line j) answers) (refl, refl, refl) (all_replies j answers)
+answer_uncounted : (family : Family) (line : Line) → counts_none family ≡ true → (tells_that_nothing_was_done line || answers family line) ≡ true
+    → is_counted line ≡ false
+answer_uncounted Objects said none fits = absurd (true≢false (sym none))
+answer_uncounted Cycle said none fits = absurd (true≢false (sym none))
+answer_uncounted Sweeps said none fits = absurd (true≢false (sym none))
+answer_uncounted family (L.Pause kept dead crew traced walked) none fits = absurd (true≢false (sym fits))
+answer_uncounted family (L.Finalise n) none fits = absurd (true≢false (sym fits))
+answer_uncounted family L.Full none fits = absurd (true≢false (sym fits))
+answer_uncounted family other none fits = refl
 
-all_answers : (answers : ℕ → List Answer) (threads : List ℕ) → All IsUncounted (flat_map (λ j. map (reply_line j) (answers j)) threads)
-all_answers answers [] = All-nil IsUncounted
-all_answers answers (j ∷ threads) =
-    All-append IsUncounted (map (reply_line j) (answers j)) (flat_map (λ j. map (reply_line j) (answers j)) threads) (all_replies j (answers j)) (all_answers answers threads)
+order_uncounted : (line : Line) → tells_of_orders line ≡ true → is_counted line ≡ false
+order_uncounted (L.Reply j reply) is = refl
+order_uncounted (L.ReplyTotals j o n u f) is = refl
+order_uncounted (L.Entry entry) is = refl
+order_uncounted other is = absurd (true≢false (sym is))
 
-all_entries : (entries : List Entry) → All IsUncounted (map (λ entry. L.Entry entry) entries)
-all_entries [] = All-nil IsUncounted
-all_entries (entry ∷ entries) = All-cons IsUncounted (L.Entry entry) (map (λ entry. L.Entry entry) entries) (refl, refl, refl) (all_entries entries)
+before_uncounted : (family : Family) (told : List Line) → counts_none family ≡ true → TellsBefore family told → All IsUncounted told
+before_uncounted Objects told none h = absurd (true≢false (sym none))
+before_uncounted Cycle told none h = absurd (true≢false (sym none))
+before_uncounted Sweeps told none h = absurd (true≢false (sym none))
+before_uncounted Threads told none h = λ i d low. uncounted_line _ (order_uncounted _ (h i d low))
+before_uncounted family told none h = subst (All IsUncounted) (sym h) (All-nil IsUncounted)
 
-join_counts : (old new : State) (piece : List Entry) (lines : List Line) → StepThreadsJoin old piece lines new → AreCountedByLines old lines new
-join_counts old new piece lines h =
-    let k = took_same old piece in
-    counted old new lines _ h.after
-    (uncounted old _ lines
-    (subst (All IsUncounted) (sym h.lines_are)
-    (All-append IsUncounted _ _ (All-append IsUncounted _ _ (all_answers h.answers old.running) (all_entries (took old piece).unprinted))
-    (alone (L.Joined (length old.running)) (refl, refl, refl))))
-    (record { ordinal = k.ordinal; pauses = k.pauses; finalised = k.finalised; full = k.full }))
+after_none : (family : Family) (told : List Line) → counts_none family ≡ true → TellsAfter family told → told ≡ []
+after_none Cycle told none h = absurd (true≢false (sym none))
+after_none family told none h = h
+
+family_same : (family : Family) (old : State) (piece : List Entry) (lines : List Line) (new : State) → counts_none family ≡ true
+    → StaysInFamily family old piece lines new → (new.pauses ≡ old.pauses) × (new.finalised ≡ old.finalised) × (new.full ≡ old.full)
+family_same Objects old piece lines new none h = absurd (true≢false (sym none))
+family_same Cycle old piece lines new none h = absurd (true≢false (sym none))
+family_same Sweeps old piece lines new none h = absurd (true≢false (sym none))
+family_same family old piece lines new none h =
+    (ap (λ (s : State). s.pauses) h.rest, ap (λ (s : State). s.finalised) h.rest, ap (λ (s : State). s.full) h.rest)
+
+family_counts : (family : Family) (old : State) (piece : List Entry) (lines : List Line) (new : State) → counts_none family ≡ true
+    → StaysInFamily family old piece lines new → AreCountedByLines old lines new
+family_counts family old piece lines new none h =
+    let told = h.told in
+    let all : All IsUncounted lines =
+    subst (All IsUncounted) (sym told.lines_are)
+    (All-append IsUncounted told.before (told.answer ∷ told.after) (before_uncounted family told.before none told.first)
+    (subst (λ after. All IsUncounted (told.answer ∷ after)) (sym (after_none family told.after none told.then))
+    (alone told.answer (uncounted_line told.answer (answer_uncounted family told.answer none told.fits))))) in
+    let same = family_same family old piece lines new none h in
+    let no_pause = none_counted tells_pause lines (λ k d l. (all k d l).0) in
+    let no_finalisation = none_counted tells_finalisation lines (λ k d l. (all k d l).1) in
+    let no_full = none_counted tells_full lines (λ k d l. (all k d l).2) in
+    record {
+      commands = counted_one family old piece lines new h;
+      pauses = omega (arith, same.0, no_pause);
+      finalised = omega (arith, same.1, no_finalisation);
+      full = omega (arith, same.2, no_full);
+    }
 
 -- ---- every command
 
@@ -315,18 +337,8 @@ counts setup old new (C.GcNow want) piece lines h = gc_now old new lines setup w
 counts setup old new (C.Sweep n) piece lines h = sweep_to old new lines setup _ h.1
 counts setup old new C.SweepAll piece lines h = sweep_to old new lines setup _ h.1
 counts setup old new C.Stat piece lines h = like old new lines old _ (refl, refl, refl) refl refl refl refl h.1.2 h.1.3
-counts setup old new (C.Export p x) piece lines h = export_counts old new lines p x piece h
-counts setup old new (C.Import x p) piece lines h = import_counts old new lines x p piece h
-counts setup old new (C.At j order) piece lines h = elim h.1 [
-  | inl m ↦ memory old new lines m
-  | inr d ↦ like old new lines _ L.Queued (refl, refl, refl) refl refl refl refl d.0 d.1
-]
-counts setup old new C.ThreadsGo piece lines h = elim h.1 [
-  | inl d ↦ like old new lines _ L.Memory (refl, refl, refl) refl refl refl refl d.0 d.1
-  | inr d ↦ like old new lines _ _ (refl, refl, refl) refl refl refl refl d.0 d.1
-]
-counts setup old new C.ThreadsJoin piece lines h = join_counts old new piece lines h
-counts setup old new command piece lines h = comes_out old new lines command piece (plain_step setup old new command piece lines refl h)
+counts setup old new command piece lines h =
+    family_counts (family_of command) old piece lines new refl (steps_stay_in_their_family setup old command piece lines new h)
 
 pub steps_count_lines : StepsCountLines
 steps_count_lines setup old command piece lines new h = counts setup old new command piece lines h
