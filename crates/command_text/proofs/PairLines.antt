@@ -10,7 +10,7 @@ use Rattle.gc_graph.specs.Forms.{Row as GrammarRow}
 use Rattle.gc_graph.specs.Reasons.{Bounds as GrammarBounds, all_say, is_bad, is_outside, is_half_null, value_of}
 use Rattle.command_text.specs.declared.forms.Row.{Row}
 use Rattle.command_text.specs.declared.forms.Make.TheVariants as M
-use Rattle.command_text.specs.declared.forms.SmallForm.{SmallForm}
+use Rattle.command_text.specs.declared.making.SmallForm.{SmallForm}
 use Rattle.command_text.specs.declared.places.Bounds.{Bounds}
 use Rattle.command_text.specs.declared.said.Said.{Said}
 use Rattle.line_words.specs.Cursor.{IsNextWord}

@@ -9,7 +9,7 @@ use Rattle.gc_graph.specs.Reasons.{all_say}
 use Rattle.command_text.specs.declared.forms.Row.{Row}
 use Rattle.command_text.specs.declared.forms.Make.{Make}
 use Rattle.command_text.specs.declared.forms.Make.TheVariants as M
-use Rattle.command_text.specs.declared.forms.SmallForm.{SmallForm}
+use Rattle.command_text.specs.declared.making.SmallForm.{SmallForm}
 use Rattle.command_text.specs.declared.places.Bounds.{Bounds}
 use Rattle.command_text.specs.declared.said.Said.{Said}
 use Rattle.command_text.specs.declared.row_lines.CommandLine.{CommandLine}

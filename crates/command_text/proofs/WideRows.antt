@@ -6,7 +6,7 @@ use Rattle.gc_graph.specs.Forms.{Place}
 use Rattle.gc_graph.specs.Reasons.{says, all_say, is_unknown, is_bad, is_outside}
 use Rattle.command_text.specs.declared.forms.Row.{Row}
 use Rattle.command_text.specs.declared.forms.Make.TheVariants as M
-use Rattle.command_text.specs.declared.forms.WideForm.{WideForm}
+use Rattle.command_text.specs.declared.wide.WideForm.{WideForm}
 use Rattle.command_text.specs.declared.places.Bounds.{Bounds}
 use Rattle.command_text.specs.declared.said.Said.{Said}
 use Rattle.line_words.specs.Cursor.{line_words, IsNextWord}

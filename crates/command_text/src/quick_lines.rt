@@ -13,13 +13,13 @@ ghost use Rattle.command_text.specs.RowLines.{IsRowLine};
 ghost use Rattle.command_text.specs.Rows.{IsLow, bounds_of, place_of, row_by, wide_place_of};
 ghost use Rattle.command_text.specs.Said.{IsPlaceRead, IsReadOn};
 
-use super::forms::{Make, Row, Spot, WideForm};
+use super::forms::{Make, Row, Spot};
 use super::making::small_command;
 use super::places::{Bounds, Reading};
 use super::reasons::FAULTLESS;
 use super::rows::{COPY, DROP, GET, NEW, PUT, READ, SET, WEAK, WORD};
 use super::said::{Said, nothing_said, with_word};
-use super::wide::wide_command;
+use super::wide::{WideForm, wide_command};
 use gc_graph::Command;
 use line_words::{Any, Small, begins, is_line_end, line_end, next_any, next_small};
 
