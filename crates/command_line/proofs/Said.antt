@@ -2,7 +2,7 @@
 use Rattle.std.proofs.Common.{◌≡◌, ◌∙◌, Bool, true, false, true≢false, ℕ, List, [], ◌∷◌, ◌++◌, Option, Some, None, refl, ap, codes, cond, is_some}
 use Rattle.std.specs.Prelude.{option_map}
 use Rattle.std.specs.Str.{bytes_eq}
-use Rattle.command_line.specs.Settings.{Setting, number_in, number_within, page_size_of, most_markers}
+use Rattle.command_line.specs.Settings.{Setting, number_of_word, number_within, page_size_of, most_markers}
 use Rattle.command_line.specs.Settings.Setting.{Pages, PageWords, Markers, Summary, Seed, Count}
 use Rattle.command_line.specs.Heard.{Heard}
 
@@ -42,7 +42,7 @@ abbrev pub key_setting : Key → List ℕ → Option Setting
 key_setting pages v = option_map Pages (number_within 1 1024 v)
 key_setting page_words v = option_map PageWords (page_size_of v)
 key_setting markers v = option_map Markers (number_within 0 most_markers v)
-key_setting seed v = option_map Seed (number_in v)
+key_setting seed v = option_map Seed (number_of_word v)
 key_setting count v = option_map Count (number_within 1 50000 v)
 
 -- the setting that is said

@@ -34,12 +34,12 @@ use Rattle.command_text.specs.declared.forms.Row.{Row}
 -- ---- places
 
 -- the place of the grammar that a spot stands for
-abbrev pub place_of : Spot → Place
-place_of (S.Number from last) = Number from (last + 1)
-place_of (S.NumberOrNull from last) = NumberOr (codes "-") from (last + 1)
-place_of S.TypeNumber = TypeNumber
-place_of S.Want = want
-place_of S.GoOrJoin = Either (codes "go") (codes "join")
+abbrev pub place_of_spot : Spot → Place
+place_of_spot (S.Number from last) = Number from (last + 1)
+place_of_spot (S.NumberOrNull from last) = NumberOr (codes "-") from (last + 1)
+place_of_spot S.TypeNumber = TypeNumber
+place_of_spot S.Want = want
+place_of_spot S.GoOrJoin = Either (codes "go") (codes "join")
 
 -- the word for null
 abbrev pub is_null : List ℕ → Bool
@@ -127,7 +127,7 @@ tail_of (M.Wide form) = wide_place_of form ∷ []
 
 -- all places of a row
 abbrev pub places_in : Row → List Place
-places_in row = map place_of row.spots.now ++ tail_of row.make
+places_in row = map place_of_spot row.spots.now ++ tail_of row.make
 
 -- the row of the grammar for which a row stands
 abbrev pub row_by : Row → GrammarRow
