@@ -9,7 +9,7 @@ use Rattle.std.proofs.lemmas.List.{take_all}
 use Rattle.gc_graph.specs.Words.{is_text}
 use Rattle.clap.specs.Lexer.{name_and_value}
 use Rattle.clap.specs.Walk.{Rule, arg_by_long}
-use Rattle.command_line.specs.Settings.{Setting, is_equals, number_in, number_within, page_size_of, most_markers, setting_alone, setting_named}
+use Rattle.command_line.specs.Settings.{Setting, is_equals, number_of_word, number_within, page_size_of, most_markers, setting_alone, setting_named}
 use Rattle.command_line.specs.Settings.Setting.{Pages, PageWords, Markers, Summary, Seed, Count}
 use Rattle.command_line.proofs.Built.{filled_option, filled_summary, rules}
 use Rattle.command_line.proofs.Said.{Key, pages, page_words, markers, seed, count, key_name, key_setting}
@@ -51,7 +51,7 @@ rule_from p w m s g c =
 abbrev pub setting_from : List ℕ → Bool → Bool → Bool → Bool → Bool → Option Setting
 setting_from v p w m g c =
     cond p (option_map Pages (number_within 1 1024 v)) (cond w (option_map PageWords (page_size_of v))
-    (cond m (option_map Markers (number_within 0 most_markers v)) (cond g (option_map Seed (number_in v))
+    (cond m (option_map Markers (number_within 0 most_markers v)) (cond g (option_map Seed (number_of_word v))
     (cond c (option_map Count (number_within 1 50000 v)) None))))
 
 module _ (n : List ℕ) where

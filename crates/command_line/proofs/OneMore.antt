@@ -3,10 +3,10 @@ use Rattle.std.proofs.Common.{◌≡◌, ◌∙◌, ℕ, Bool, true, false, List
 use Rattle.std.proofs.lemmas.Option.{none-some, same_Some}
 use Rattle.std.specs.Prelude.{option_map, option_and_then}
 use Rattle.command_line.specs.declared.asked.Asked.{Asked}
-use Rattle.command_line.specs.Settings.{Setting, before, number_in, number_within, page_size_of, most_markers}
+use Rattle.command_line.specs.Settings.{Setting, before, number_of_word, number_within, page_size_of, most_markers}
 use Rattle.command_line.specs.Settings.Setting.{Pages, PageWords, Markers, Summary, Seed, Count}
 use Rattle.command_line.specs.Options.{with_setting}
-use Rattle.command_line.specs.Heard.{Heard, all_read, asked_by, read_by}
+use Rattle.command_line.specs.Heard.{Heard, all_read, asked_by, read_if_given}
 use Rattle.command_line.proofs.Pairs.{is_asked}
 use Rattle.command_line.proofs.InTurn.{in_turn}
 use Rattle.command_line.proofs.Said.{Said, pages, page_words, markers, seed, count, asks, sums_up, name_of, setting_of, said, heard_of, add, none_of, hears, is_heard, heard_more, heard_said}
@@ -15,19 +15,19 @@ use Rattle.command_line.proofs.Said.{Said, pages, page_words, markers, seed, cou
 
 -- what each text is read as
 abbrev pages_of : Heard → Option (Option ℕ)
-pages_of h = read_by (number_within 1 1024) h.pages
+pages_of h = read_if_given (number_within 1 1024) h.pages
 
 abbrev words_of : Heard → Option (Option ℕ)
-words_of h = read_by page_size_of h.page_words
+words_of h = read_if_given page_size_of h.page_words
 
 abbrev markers_of : Heard → Option (Option ℕ)
-markers_of h = read_by (number_within 0 most_markers) h.markers
+markers_of h = read_if_given (number_within 0 most_markers) h.markers
 
 abbrev seed_of : Heard → Option (Option ℕ)
-seed_of h = read_by number_in h.seed
+seed_of h = read_if_given number_of_word h.seed
 
 abbrev count_of : Heard → Option (Option ℕ)
-count_of h = read_by (number_within 1 50000) h.count
+count_of h = read_if_given (number_within 1 50000) h.count
 
 -- what was asked with this setting besides, where both are there
 abbrev and_set : Option Setting → Option Asked → Option Asked
@@ -89,7 +89,7 @@ mapped_is None y e = absurd (none-some y e)
 mapped_is (Some x) y e = ap is_some (sym (same_Some (Some x) y e))
 
 -- something was asked of an option just where it has a text
-read_is : (read : List ℕ → Option ℕ) (o : Option (List ℕ)) (y : Option ℕ) → read_by read o ≡ Some y → is_some y ≡ is_some o
+read_is : (read : List ℕ → Option ℕ) (o : Option (List ℕ)) (y : Option ℕ) → read_if_given read o ≡ Some y → is_some y ≡ is_some o
 read_is read None y e = ap is_some (sym (same_Some None y e))
 read_is read (Some t) y e = mapped_is (read t) y e
 
@@ -109,7 +109,7 @@ asked_heard : (h : Heard) (s : Said) (a : Asked) (t : Setting) → asked_by h �
 asked_heard h (asks pages v) a t e is = set_is a Pages (number_within 1 1024 v) t _ (λ n. read_is (number_within 1 1024) h.pages a.pages (parts_of h a e).is_p) is
 asked_heard h (asks page_words v) a t e is = set_is a PageWords (page_size_of v) t _ (λ n. read_is page_size_of h.page_words a.page_words (parts_of h a e).is_w) is
 asked_heard h (asks markers v) a t e is = set_is a Markers (number_within 0 most_markers v) t _ (λ n. read_is (number_within 0 most_markers) h.markers a.markers (parts_of h a e).is_m) is
-asked_heard h (asks seed v) a t e is = set_is a Seed (number_in v) t _ (λ n. read_is number_in h.seed a.seed (parts_of h a e).is_g) is
+asked_heard h (asks seed v) a t e is = set_is a Seed (number_of_word v) t _ (λ n. read_is number_of_word h.seed a.seed (parts_of h a e).is_g) is
 asked_heard h (asks count v) a t e is = set_is a Count (number_within 1 50000 v) t _ (λ n. read_is (number_within 1 50000) h.count a.count (parts_of h a e).is_c) is
 asked_heard h sums_up a t e is = ap (is_asked a) (sym (same_Some Summary t is)) ∙ sym (parts_of h a e).is_b
 
@@ -147,8 +147,8 @@ fresh h (asks markers v) none =
     markers_read h.summary (number_within 0 most_markers v) (pages_of h) (words_of h) (markers_of h) (seed_of h) (count_of h)
     ∙ ap (λ o. and_set (option_map Markers (number_within 0 most_markers v)) (asked_by (record h { markers = o }))) (sym (none_of h.markers none))
 fresh h (asks seed v) none =
-    seed_read h.summary (number_in v) (pages_of h) (words_of h) (markers_of h) (seed_of h) (count_of h)
-    ∙ ap (λ o. and_set (option_map Seed (number_in v)) (asked_by (record h { seed = o }))) (sym (none_of h.seed none))
+    seed_read h.summary (number_of_word v) (pages_of h) (words_of h) (markers_of h) (seed_of h) (count_of h)
+    ∙ ap (λ o. and_set (option_map Seed (number_of_word v)) (asked_by (record h { seed = o }))) (sym (none_of h.seed none))
 fresh h (asks count v) none =
     count_read h.summary (number_within 1 50000 v) (pages_of h) (words_of h) (markers_of h) (seed_of h) (count_of h)
     ∙ ap (λ o. and_set (option_map Count (number_within 1 50000 v)) (asked_by (record h { count = o }))) (sym (none_of h.count none))

@@ -2,7 +2,7 @@
 use Rattle.std.proofs.Common.{◌≡◌, ◌∙◌, Bool, true, false, true≢false, ℕ, List, [], ◌∷◌, ◌++◌, Option, Some, None, refl, ap, codes, cond, is_some}
 use Rattle.std.specs.Prelude.{option_map}
 use Rattle.std.specs.Str.{bytes_eq}
-use Rattle.command_line.specs.Settings.{Setting, number_in, number_within, page_size_of, most_markers}
+use Rattle.command_line.specs.Settings.{Setting, number_of_word, number_within, page_size_of, most_markers}
 use Rattle.command_line.specs.Settings.Setting.{Pages, PageWords, Markers, Summary, Seed, Count}
 use Rattle.command_line.specs.Heard.{Heard}
 
@@ -42,7 +42,7 @@ abbrev pub key_setting : Key → List ℕ → Option Setting
 key_setting pages v = option_map Pages (number_within 1 1024 v)
 key_setting page_words v = option_map PageWords (page_size_of v)
 key_setting markers v = option_map Markers (number_within 0 most_markers v)
-key_setting seed v = option_map Seed (number_in v)
+key_setting seed v = option_map Seed (number_of_word v)
 key_setting count v = option_map Count (number_within 1 50000 v)
 
 -- the setting that is said
@@ -129,56 +129,45 @@ gained id all s same none =
     ∙ ap (λ b. or_said (said id all) (cond b (Some (text_of s)) None)) same
     ∙ ap (λ o. or_said o (Some (text_of s))) (none_of (said id all) none)
 
+-- what is heard, from what was said of each name
+heard_by : (all : List Said) (h : Heard) → said (codes "pages") all ≡ h.pages → said (codes "page-words") all ≡ h.page_words
+    → said (codes "markers") all ≡ h.markers → is_some (said (codes "summary") all) ≡ h.summary → said (codes "generate") all ≡ h.seed
+    → said (codes "count") all ≡ h.count → heard_of all ≡ h
+heard_by all h p w m u g c = λ i. record {
+  pages = p i;
+  page_words = w i;
+  markers = m i;
+  summary = u i;
+  seed = g i;
+  count = c i;
+}
+
 -- what is heard with one more said
 pub heard_more : (all : List Said) (s : Said) → is_some (said (name_of s) all) ≡ false → heard_of (all ++ s ∷ []) ≡ hears (heard_of all) s
-heard_more all (asks pages v) none = λ i. record {
-  pages = gained (codes "pages") all (asks pages v) refl none i;
-  page_words = kept (codes "page-words") all (asks pages v) refl i;
-  markers = kept (codes "markers") all (asks pages v) refl i;
-  summary = is_some (kept (codes "summary") all (asks pages v) refl i);
-  seed = kept (codes "generate") all (asks pages v) refl i;
-  count = kept (codes "count") all (asks pages v) refl i;
-}
-heard_more all (asks page_words v) none = λ i. record {
-  pages = kept (codes "pages") all (asks page_words v) refl i;
-  page_words = gained (codes "page-words") all (asks page_words v) refl none i;
-  markers = kept (codes "markers") all (asks page_words v) refl i;
-  summary = is_some (kept (codes "summary") all (asks page_words v) refl i);
-  seed = kept (codes "generate") all (asks page_words v) refl i;
-  count = kept (codes "count") all (asks page_words v) refl i;
-}
-heard_more all (asks markers v) none = λ i. record {
-  pages = kept (codes "pages") all (asks markers v) refl i;
-  page_words = kept (codes "page-words") all (asks markers v) refl i;
-  markers = gained (codes "markers") all (asks markers v) refl none i;
-  summary = is_some (kept (codes "summary") all (asks markers v) refl i);
-  seed = kept (codes "generate") all (asks markers v) refl i;
-  count = kept (codes "count") all (asks markers v) refl i;
-}
-heard_more all (asks seed v) none = λ i. record {
-  pages = kept (codes "pages") all (asks seed v) refl i;
-  page_words = kept (codes "page-words") all (asks seed v) refl i;
-  markers = kept (codes "markers") all (asks seed v) refl i;
-  summary = is_some (kept (codes "summary") all (asks seed v) refl i);
-  seed = gained (codes "generate") all (asks seed v) refl none i;
-  count = kept (codes "count") all (asks seed v) refl i;
-}
-heard_more all (asks count v) none = λ i. record {
-  pages = kept (codes "pages") all (asks count v) refl i;
-  page_words = kept (codes "page-words") all (asks count v) refl i;
-  markers = kept (codes "markers") all (asks count v) refl i;
-  summary = is_some (kept (codes "summary") all (asks count v) refl i);
-  seed = kept (codes "generate") all (asks count v) refl i;
-  count = gained (codes "count") all (asks count v) refl none i;
-}
-heard_more all sums_up none = λ i. record {
-  pages = kept (codes "pages") all sums_up refl i;
-  page_words = kept (codes "page-words") all sums_up refl i;
-  markers = kept (codes "markers") all sums_up refl i;
-  summary = is_some (gained (codes "summary") all sums_up refl none i);
-  seed = kept (codes "generate") all sums_up refl i;
-  count = kept (codes "count") all sums_up refl i;
-}
+heard_more all (asks pages v) none =
+    heard_by (all ++ (asks pages v) ∷ []) (hears (heard_of all) (asks pages v))
+    (gained _ all (asks pages v) refl none) (kept _ all (asks pages v) refl) (kept _ all (asks pages v) refl)
+    (ap is_some (kept _ all (asks pages v) refl)) (kept _ all (asks pages v) refl) (kept _ all (asks pages v) refl)
+heard_more all (asks page_words v) none =
+    heard_by (all ++ (asks page_words v) ∷ []) (hears (heard_of all) (asks page_words v))
+    (kept _ all (asks page_words v) refl) (gained _ all (asks page_words v) refl none) (kept _ all (asks page_words v) refl)
+    (ap is_some (kept _ all (asks page_words v) refl)) (kept _ all (asks page_words v) refl) (kept _ all (asks page_words v) refl)
+heard_more all (asks markers v) none =
+    heard_by (all ++ (asks markers v) ∷ []) (hears (heard_of all) (asks markers v))
+    (kept _ all (asks markers v) refl) (kept _ all (asks markers v) refl) (gained _ all (asks markers v) refl none)
+    (ap is_some (kept _ all (asks markers v) refl)) (kept _ all (asks markers v) refl) (kept _ all (asks markers v) refl)
+heard_more all (asks seed v) none =
+    heard_by (all ++ (asks seed v) ∷ []) (hears (heard_of all) (asks seed v))
+    (kept _ all (asks seed v) refl) (kept _ all (asks seed v) refl) (kept _ all (asks seed v) refl)
+    (ap is_some (kept _ all (asks seed v) refl)) (gained _ all (asks seed v) refl none) (kept _ all (asks seed v) refl)
+heard_more all (asks count v) none =
+    heard_by (all ++ (asks count v) ∷ []) (hears (heard_of all) (asks count v))
+    (kept _ all (asks count v) refl) (kept _ all (asks count v) refl) (kept _ all (asks count v) refl)
+    (ap is_some (kept _ all (asks count v) refl)) (kept _ all (asks count v) refl) (gained _ all (asks count v) refl none)
+heard_more all sums_up none =
+    heard_by (all ++ sums_up ∷ []) (hears (heard_of all) sums_up)
+    (kept _ all sums_up refl) (kept _ all sums_up refl) (kept _ all sums_up refl)
+    (ap is_some (gained _ all sums_up refl none)) (kept _ all sums_up refl) (kept _ all sums_up refl)
 
 -- an option was heard of just where its name was said
 pub heard_said : (all : List Said) (s : Said) → is_heard (heard_of all) s ≡ is_some (said (name_of s) all)

@@ -4,7 +4,7 @@ use Rattle.clap.specs.Matches.{first_value, one_text}
 use Rattle.clap.specs.declared.parser.matches.Found.{Found}
 use Rattle.command_line.specs.declared.asked.Asked.{Asked}
 use Rattle.command_line.specs.declared.options.Options.{Options}
-use Rattle.command_line.specs.Settings.{number_in, number_within, is_page_size, page_size_of, most_markers}
+use Rattle.command_line.specs.Settings.{number_of_word, number_within, is_page_size, page_size_of, most_markers}
 use Rattle.command_line.specs.Options.{options_from}
 
 -- the text of each option that has a value, and whether `--summary` was named
@@ -26,9 +26,9 @@ pub record Holds (found : Found) (heard : Heard) : Type 0 where
   pub count : first_value found (codes "count") ≡ heard.count
 
 -- what an option's text is read as, where it has one: none where it can't be read
-abbrev pub read_by : {X : Type 0} → (List ℕ → Option X) → Option (List ℕ) → Option (Option X)
-read_by read None = Some None
-read_by read (Some text) = option_map (λ x. Some x) (read text)
+abbrev pub read_if_given : {X : Type 0} → (List ℕ → Option X) → Option (List ℕ) → Option (Option X)
+read_if_given read None = Some None
+read_if_given read (Some text) = option_map (λ x. Some x) (read text)
 
 -- what is asked of each option, where each text could be read
 abbrev pub all_read : Bool → Option (Option ℕ) → Option (Option ℕ) → Option (Option ℕ) → Option (Option ℕ)
@@ -45,9 +45,9 @@ all_read summary _ _ _ _ _ = None
 
 -- what the texts ask of each option
 abbrev pub asked_by : Heard → Option Asked
-asked_by heard = all_read heard.summary (read_by (number_within 1 1024) heard.pages)
-    (read_by page_size_of heard.page_words) (read_by (number_within 0 most_markers) heard.markers)
-    (read_by number_in heard.seed) (read_by (number_within 1 50000) heard.count)
+asked_by heard = all_read heard.summary (read_if_given (number_within 1 1024) heard.pages)
+    (read_if_given page_size_of heard.page_words) (read_if_given (number_within 0 most_markers) heard.markers)
+    (read_if_given number_of_word heard.seed) (read_if_given (number_within 1 50000) heard.count)
 
 -- the options that the texts ask for
 abbrev pub options_heard : Heard → Option Options

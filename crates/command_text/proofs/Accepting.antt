@@ -6,12 +6,12 @@ use Rattle.gc_graph.specs.declared.command.Command.TheVariants as C
 use Rattle.gc_graph.specs.declared.command.Want.{Want}
 use Rattle.gc_graph.specs.declared.command.Order.{Order}
 use Rattle.gc_graph.specs.Forms.{none, one, two, three, new_command, set_command, sweep_command, threads_command, by_want, order_of_none, order_of_one, order_of_two}
-use Rattle.command_text.specs.declared.forms.SmallForm.{SmallForm}
-use Rattle.command_text.specs.declared.forms.SmallForm.TheVariants as F
-use Rattle.command_text.specs.declared.forms.OrderForm.{OrderForm}
-use Rattle.command_text.specs.declared.forms.OrderForm.TheVariants as O
-use Rattle.command_text.specs.declared.forms.WideForm.{WideForm}
-use Rattle.command_text.specs.declared.forms.WideForm.TheVariants as W
+use Rattle.command_text.specs.declared.making.SmallForm.{SmallForm}
+use Rattle.command_text.specs.declared.making.SmallForm.TheVariants as F
+use Rattle.command_text.specs.declared.making.OrderForm.{OrderForm}
+use Rattle.command_text.specs.declared.making.OrderForm.TheVariants as O
+use Rattle.command_text.specs.declared.wide.WideForm.{WideForm}
+use Rattle.command_text.specs.declared.wide.WideForm.TheVariants as W
 use Rattle.command_text.specs.declared.forms.Make.{Make}
 use Rattle.command_text.specs.declared.forms.Make.TheVariants as M
 use Rattle.command_text.specs.Rows.{order_command_of, small_command_of, wide_command_of, command_of, makes_pair, takes}
@@ -108,26 +108,14 @@ take_order O.Upgrade xs h = take_order_of_two _ xs h
 take_order O.Totals xs h = take_order_of_none _ xs h
 
 take_small : (form : SmallForm) (xs : List ℕ) → makes_pair (M.Small form) ≡ false → Ones (small_command_of form) xs → Takes (small_command_of form) xs
+take_small (F.Bare form) xs p h = take_none _ xs h
+take_small (F.One form) xs p h = take_one _ xs h
+take_small (F.Two form) xs p h = take_two _ xs h
+take_small (F.Three form) xs p h = take_three _ xs h
 take_small F.New xs p h = take_new xs h
 take_small F.Set xs p h = take_set xs h
 take_small F.Pair xs p h = cc
-take_small F.Word xs p h = take_two _ xs h
-take_small F.Get xs p h = take_three _ xs h
-take_small F.Key xs p h = take_three _ xs h
-take_small F.Val xs p h = take_three _ xs h
-take_small F.Copy xs p h = take_two _ xs h
-take_small F.Drop xs p h = take_one _ xs h
-take_small F.Weak xs p h = take_two _ xs h
-take_small F.Read xs p h = take_two _ xs h
-take_small F.Push xs p h = take_two _ xs h
-take_small F.Pop xs p h = take_none _ xs h
-take_small F.Peek xs p h = take_two _ xs h
-take_small F.Stat xs p h = take_none _ xs h
-take_small F.Export xs p h = take_two _ xs h
-take_small F.Import xs p h = take_two _ xs h
 take_small F.Threads xs p h = take_threads xs h
-take_small F.GcStart xs p h = take_none _ xs h
-take_small F.GcStep xs p h = take_one _ xs h
 take_small F.GcFinish xs p h = take_want (λ w. C.GcFinish w) xs h
 take_small F.GcNow xs p h = take_want (λ w. C.GcNow w) xs h
 take_small (F.At form) xs p h = take_order form xs h

@@ -10,12 +10,12 @@ use Rattle.gc_graph.specs.Forms.{Row as GrammarRow}
 use Rattle.gc_graph.specs.Reasons.{Bounds as GrammarBounds, all_say, is_bad, is_outside, is_half_null, value_of}
 use Rattle.command_text.specs.declared.forms.Row.{Row}
 use Rattle.command_text.specs.declared.forms.Make.TheVariants as M
-use Rattle.command_text.specs.declared.forms.SmallForm.{SmallForm}
+use Rattle.command_text.specs.declared.making.SmallForm.{SmallForm}
 use Rattle.command_text.specs.declared.places.Bounds.{Bounds}
 use Rattle.command_text.specs.declared.said.Said.{Said}
 use Rattle.line_words.specs.Cursor.{IsNextWord}
 use Rattle.command_text.specs.Ranks.{rank_by, rank_at, lowest, half_rank}
-use Rattle.command_text.specs.Rows.{bounds_of, place_of, is_null, places_in, row_by, agree, makes_pair, pair_places, command_of, is_sound}
+use Rattle.command_text.specs.Rows.{bounds_of, place_of_spot, is_null, places_in, row_by, agree, makes_pair, pair_places, command_of, is_sound}
 use Rattle.command_text.specs.Said.{list_of, words_left, AreNullsSaid, IsReadOn, is_half_said}
 use Rattle.command_text.specs.RowLines.{row_rank, row_count_rank, row_half_rank, row_numbers}
 use Rattle.command_text.specs.CommandLines.{is_half_after}
@@ -207,11 +207,11 @@ pair_said : (bounds : Bounds) (row : Row) (form : SmallForm) (bytes : List ℕ) 
     → is_half_said said ≡ is_half_after (words_left bytes before)
 pair_said bounds row form bytes before said makes none pair read high =
     let words : List (List ℕ) = words_left bytes before in
-    let places : map place_of row.spots.now ≡ pair_places = sym (small_places row form makes) ∙ pair in
+    let places : map place_of_spot row.spots.now ≡ pair_places = sym (small_places row form makes) ∙ pair in
     let four = ap length places in
     let low = ap (λ (ps : List Place). lowest (bounds_of bounds) ps words) places in
     half_words (bounds_of bounds) words read.more said.count said.a said.b said.c said.d
-    (omega (arith, read.count, none, four, length-map row.spots.now place_of))
+    (omega (arith, read.count, none, four, length-map row.spots.now place_of_spot))
     (sym (read.adds ∙ ap (λ ns. ns ++ read.more) (said_before before none)))
     (subst (λ (ps : List Place). AreNullsSaid ps words read.more) places read.nulls)
     (omega (arith, high, read.rank, low))

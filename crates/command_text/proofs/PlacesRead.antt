@@ -10,7 +10,7 @@ use Rattle.command_text.specs.declared.places.Bounds.{Bounds}
 use Rattle.command_text.specs.declared.said.Said.{Said}
 use Rattle.line_words.specs.Cursor.{line_words, lines_after}
 use Rattle.command_text.specs.Ranks.{rank_by, rank_at, number_rank, lowest}
-use Rattle.command_text.specs.Rows.{bounds_of, place_of}
+use Rattle.command_text.specs.Rows.{bounds_of, place_of_spot}
 use Rattle.command_text.specs.Said.{list_of, words_left, IsPlaceRead, AreNullsSaid, IsReadOn}
 
 pub rank_le9 : (u b c o : Bool) → rank_by u b c o ≤ 9
@@ -109,7 +109,7 @@ word_good bounds place word before rank its_rank low good =
 pub on_no_words : (bounds : Bounds) (spots : List Spot) (bytes : List ℕ) (old : Said) → old.end ≤ length bytes → old.rank ≤ 9
     → words_left bytes old ≡ [] → IsReadOn bounds spots bytes old old
 on_no_words bounds spots bytes old within low none =
-    let places : List Place = map place_of spots in
+    let places : List Place = map place_of_spot spots in
     let ranks : lowest (bounds_of bounds) places (words_left bytes old) ≡ 9 =
     ap (lowest (bounds_of bounds) places) none ∙ lowest_nothing (bounds_of bounds) places in
     record {
@@ -127,11 +127,11 @@ on_no_words bounds spots bytes old within low none =
 
 -- one word was read at its place
 pub on_word : (bounds : Bounds) (spot : Spot) (bytes : List ℕ) (old new : Said) (end rank value : ℕ)
-    → IsPlaceRead (bounds_of bounds) (place_of spot) bytes old.end end rank value → old.rank ≤ 9
+    → IsPlaceRead (bounds_of bounds) (place_of_spot spot) bytes old.end end rank value → old.rank ≤ 9
     → new.rank ≡ min old.rank rank → new.end ≡ end → new.count ≡ old.count + 1 → list_of new ≡ list_of old ++ value ∷ []
     → IsReadOn bounds (spot ∷ []) bytes old new
 on_word bounds spot bytes old new end rank value read low total ends count numbers =
-    let places : List Place = place_of spot ∷ [] in
+    let places : List Place = place_of_spot spot ∷ [] in
     let ranks : lowest (bounds_of bounds) places (words_left bytes old) ≡ min rank 9 =
     ap (lowest (bounds_of bounds) places) read.words ∙ ap (λ n. min n 9) (sym read.its_rank) in
     record {
@@ -141,7 +141,7 @@ on_word bounds spot bytes old new end rank value read low total ends count numbe
       numbers = λ good.
           numbers
           ∙ ap (λ ns. list_of old ++ ns)
-          (sym (ap (all_say places) read.words ∙ ap (λ ns. ns ++ []) (read.number (word_good (bounds_of bounds) (place_of spot) read.word old.rank rank read.its_rank low (sym total ∙ good)))));
+          (sym (ap (all_say places) read.words ∙ ap (λ ns. ns ++ []) (read.number (word_good (bounds_of bounds) (place_of_spot spot) read.word old.rank rank read.its_rank low (sym total ∙ good)))));
       more = value ∷ [];
       adds = numbers;
       nulls = subst (λ (ws : List (List ℕ)). AreNullsSaid places ws (value ∷ [])) (sym read.words) (read.null, refl);
@@ -170,12 +170,12 @@ pub on_both : (bounds : Bounds) (spots more : List Spot) (bytes : List ℕ) (old
     → IsReadOn bounds spots bytes old mid → IsReadOn bounds more bytes mid new → IsReadOn bounds (spots ++ more) bytes old new
 on_both bounds spots more bytes old mid new low first next =
     let words : List (List ℕ) = words_left bytes old in
-    let places : List Place = map place_of spots in
-    let after : List Place = map place_of more in
-    let all = map-append place_of spots more in
+    let places : List Place = map place_of_spot spots in
+    let after : List Place = map place_of_spot more in
+    let all = map-append place_of_spot spots more in
     let left : words_left bytes mid ≡ drop (length places) words =
-    first.left ∙ ap (λ n. drop n words) (sym (length-map spots place_of)) in
-    let ranks : lowest (bounds_of bounds) (map place_of (spots ++ more)) words
+    first.left ∙ ap (λ n. drop n words) (sym (length-map spots place_of_spot)) in
+    let ranks : lowest (bounds_of bounds) (map place_of_spot (spots ++ more)) words
     ≡ min (lowest (bounds_of bounds) places words) (lowest (bounds_of bounds) after (words_left bytes mid)) =
     ap (λ (ps : List Place). lowest (bounds_of bounds) ps words) all
     ∙ lowest_append (bounds_of bounds) places after words

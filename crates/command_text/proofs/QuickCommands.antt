@@ -7,8 +7,11 @@ use Rattle.gc_graph.specs.Forms.{one, two, three, new_command, set_command, row_
 use Rattle.command_text.specs.declared.forms.Row.{Row}
 use Rattle.command_text.specs.declared.forms.Make.{Make}
 use Rattle.command_text.specs.declared.forms.Make.TheVariants as M
-use Rattle.command_text.specs.declared.forms.SmallForm.TheVariants as F
-use Rattle.command_text.specs.declared.forms.WideForm.TheVariants as W
+use Rattle.command_text.specs.declared.making.OneForm.TheVariants as N
+use Rattle.command_text.specs.declared.making.TwoForm.TheVariants as T
+use Rattle.command_text.specs.declared.making.ThreeForm.TheVariants as H
+use Rattle.command_text.specs.declared.making.SmallForm.TheVariants as F
+use Rattle.command_text.specs.declared.wide.WideForm.TheVariants as W
 use Rattle.command_text.specs.declared.places.Bounds.{Bounds}
 use Rattle.command_text.specs.declared.said.Said.{Said}
 use Rattle.command_text.specs.declared.quick_lines.QuickLine.{QuickLine}
@@ -67,12 +70,12 @@ frequent_set (a ∷ b ∷ suc c ∷ d ∷ more) = refl
 frequent_by : (make : Make) (numbers : List ℕ) → makes_frequent make ≡ true → holds_frequent (command_of make numbers) ≡ true
 frequent_by (M.Small F.New) numbers e = frequent_new numbers
 frequent_by (M.Small F.Set) numbers e = frequent_set numbers
-frequent_by (M.Small F.Word) numbers e = frequent_two _ (λ p f. refl) numbers
-frequent_by (M.Small F.Get) numbers e = frequent_three _ (λ p f q. refl) numbers
-frequent_by (M.Small F.Copy) numbers e = frequent_two _ (λ p q. refl) numbers
-frequent_by (M.Small F.Drop) numbers e = frequent_one _ (λ p. refl) numbers
-frequent_by (M.Small F.Weak) numbers e = frequent_two _ (λ w p. refl) numbers
-frequent_by (M.Small F.Read) numbers e = frequent_two _ (λ w p. refl) numbers
+frequent_by (M.Small (F.Two T.Word)) numbers e = frequent_two _ (λ p f. refl) numbers
+frequent_by (M.Small (F.Three H.Get)) numbers e = frequent_three _ (λ p f q. refl) numbers
+frequent_by (M.Small (F.Two T.Copy)) numbers e = frequent_two _ (λ p q. refl) numbers
+frequent_by (M.Small (F.One N.Drop)) numbers e = frequent_one _ (λ p. refl) numbers
+frequent_by (M.Small (F.Two T.Weak)) numbers e = frequent_two _ (λ w p. refl) numbers
+frequent_by (M.Small (F.Two T.Read)) numbers e = frequent_two _ (λ w p. refl) numbers
 frequent_by (M.Wide W.Put) numbers e = frequent_three _ (λ p f n. refl) numbers
 frequent_by make numbers e = absurd (true≢false (sym e))
 

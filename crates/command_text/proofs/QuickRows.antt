@@ -6,14 +6,14 @@ use Rattle.gc_graph.specs.Reasons.{Bounds as GrammarBounds, value_of}
 use Rattle.gc_graph.specs.Words.{is_number}
 use Rattle.gc_graph.specs.Forms.{Place}
 use Rattle.line_words.specs.declared.quick_words.Small.{Small}
-use Rattle.line_words.specs.QuickWords.{IsSmall}
+use Rattle.line_words.specs.QuickWords.{IsSmallNumber}
 use Rattle.command_text.specs.declared.quick_lines.Range.{Range}
 use Rattle.command_text.specs.QuickLines.{IsSaidFor}
 use Rattle.command_text.specs.declared.forms.Spot.{Spot}
 use Rattle.command_text.specs.declared.forms.Row.{Row}
 use Rattle.command_text.specs.declared.forms.Make.TheVariants as M
-use Rattle.command_text.specs.declared.forms.SmallForm.{SmallForm}
-use Rattle.command_text.specs.declared.forms.WideForm.{WideForm}
+use Rattle.command_text.specs.declared.making.SmallForm.{SmallForm}
+use Rattle.command_text.specs.declared.wide.WideForm.{WideForm}
 use Rattle.command_text.specs.declared.places.Bounds.{Bounds}
 use Rattle.command_text.specs.declared.said.Said.{Said}
 use Rattle.line_words.specs.Cursor.{IsLineEnd, IsNextWord}
@@ -31,7 +31,7 @@ use Rattle.command_text.proofs.WideRows.{IsWideWord, wide_said}
 
 -- a number in the range of its place
 pub number_read : (bounds : GrammarBounds) (place : Place) (bytes : List ℕ) (from : ℕ) (range : Range) (number : Small)
-    → IsSmall bytes from range.limit number
+    → IsSmallNumber bytes from range.limit number
     → ((word : List ℕ) → is_number word ≡ true → value_of word < range.limit → IsSaidFor bounds place word (value_of word + range.more))
     → IsPlaceRead bounds place bytes from number.end 9 (number.value + range.more)
 number_read bounds place bytes from range number small says =

@@ -5,8 +5,8 @@ use Rattle.std.proofs.lemmas.Bool.{eqb-true, true≢false}
 use Rattle.gc_graph.specs.declared.command.Command.{Command}
 use Rattle.command_text.specs.declared.forms.Row.{Row}
 use Rattle.command_text.specs.declared.forms.Make.TheVariants as M
-use Rattle.command_text.specs.declared.forms.SmallForm.{SmallForm}
-use Rattle.command_text.specs.declared.forms.WideForm.{WideForm}
+use Rattle.command_text.specs.declared.making.SmallForm.{SmallForm}
+use Rattle.command_text.specs.declared.wide.WideForm.{WideForm}
 use Rattle.command_text.specs.declared.places.Bounds.{Bounds}
 use Rattle.command_text.specs.declared.said.Said.{Said}
 use Rattle.line_words.specs.Cursor.{lines_after, IsLineEnd, IsNextWord}

@@ -9,13 +9,13 @@ use Rattle.gc_graph.specs.Reasons.{all_say}
 use Rattle.command_text.specs.declared.forms.Row.{Row}
 use Rattle.command_text.specs.declared.forms.Make.{Make}
 use Rattle.command_text.specs.declared.forms.Make.TheVariants as M
-use Rattle.command_text.specs.declared.forms.SmallForm.{SmallForm}
+use Rattle.command_text.specs.declared.making.SmallForm.{SmallForm}
 use Rattle.command_text.specs.declared.places.Bounds.{Bounds}
 use Rattle.command_text.specs.declared.said.Said.{Said}
 use Rattle.command_text.specs.declared.row_lines.CommandLine.{CommandLine}
 use Rattle.line_words.specs.Cursor.{IsLineEnd, IsNextWord}
 use Rattle.command_text.specs.Ranks.{lowest}
-use Rattle.command_text.specs.Rows.{bounds_of, place_of, places_in, tail_of, command_of, takes, makes_pair, is_sound, is_least_right}
+use Rattle.command_text.specs.Rows.{bounds_of, place_of_spot, places_in, tail_of, command_of, takes, makes_pair, is_sound, is_least_right}
 use Rattle.command_text.specs.Said.{list_of, words_left, IsReadOn}
 use Rattle.command_text.specs.RowLines.{row_count_rank, row_half_rank, row_rank, row_numbers, IsRowLine}
 use Rattle.command_text.specs.CommandLines.{is_half_after}
@@ -122,12 +122,12 @@ good_line bounds row bytes before rank numbers command end said good makes ends 
 
 -- ---- a row of small numbers
 
-pub small_places : (row : Row) (form : SmallForm) → row.make ≡ M.Small form → places_in row ≡ map place_of row.spots.now
+pub small_places : (row : Row) (form : SmallForm) → row.make ≡ M.Small form → places_in row ≡ map place_of_spot row.spots.now
 small_places row form e =
-    ap (λ make. map place_of row.spots.now ++ tail_of make) e ∙ append-nil (map place_of row.spots.now)
+    ap (λ make. map place_of_spot row.spots.now ++ tail_of make) e ∙ append-nil (map place_of_spot row.spots.now)
 
 small_most : (row : Row) (form : SmallForm) → row.make ≡ M.Small form → length (places_in row) ≡ length row.spots.now
-small_most row form e = ap length (small_places row form e) ∙ length-map row.spots.now place_of
+small_most row form e = ap length (small_places row form e) ∙ length-map row.spots.now place_of_spot
 
 small_least : (before : ℕ) (row : Row) (form : SmallForm) → row.make ≡ M.Small form → is_sound before row ≡ true
     → row.least ≤ length (places_in row)

@@ -6,12 +6,12 @@ use Rattle.gc_graph.specs.Forms.{Place}
 use Rattle.gc_graph.specs.Reasons.{says, all_say, is_unknown, is_bad, is_outside}
 use Rattle.command_text.specs.declared.forms.Row.{Row}
 use Rattle.command_text.specs.declared.forms.Make.TheVariants as M
-use Rattle.command_text.specs.declared.forms.WideForm.{WideForm}
+use Rattle.command_text.specs.declared.wide.WideForm.{WideForm}
 use Rattle.command_text.specs.declared.places.Bounds.{Bounds}
 use Rattle.command_text.specs.declared.said.Said.{Said}
 use Rattle.line_words.specs.Cursor.{line_words, IsNextWord}
 use Rattle.command_text.specs.Ranks.{lowest, rank_at}
-use Rattle.command_text.specs.Rows.{bounds_of, place_of, places_in, tail_of, wide_place_of, makes_pair, is_sound, is_least_right}
+use Rattle.command_text.specs.Rows.{bounds_of, place_of_spot, places_in, tail_of, wide_place_of, makes_pair, is_sound, is_least_right}
 use Rattle.command_text.specs.Said.{list_of, words_left, IsReadOn}
 use Rattle.command_text.specs.RowLines.{row_count_rank, row_numbers}
 use Rattle.command_text.proofs.PlacesRead.{rank_le9, lowest_append, says_append}
@@ -19,14 +19,14 @@ use Rattle.command_text.proofs.RowRanks.{IsRowSaid, half_single, sound_parts, co
 
 -- ---- the places of the row
 
-wide_places : (row : Row) (form : WideForm) → row.make ≡ M.Wide form → places_in row ≡ map place_of row.spots.now ++ wide_place_of form ∷ []
-wide_places row form e = ap (λ make. map place_of row.spots.now ++ tail_of make) e
+wide_places : (row : Row) (form : WideForm) → row.make ≡ M.Wide form → places_in row ≡ map place_of_spot row.spots.now ++ wide_place_of form ∷ []
+wide_places row form e = ap (λ make. map place_of_spot row.spots.now ++ tail_of make) e
 
 wide_most : (row : Row) (form : WideForm) → row.make ≡ M.Wide form → length (places_in row) ≡ length row.spots.now + 1
 wide_most row form e =
     ap length (wide_places row form e)
-    ∙ length-append (map place_of row.spots.now) (wide_place_of form ∷ [])
-    ∙ ap (λ n. n + 1) (length-map row.spots.now place_of)
+    ∙ length-append (map place_of_spot row.spots.now) (wide_place_of form ∷ [])
+    ∙ ap (λ n. n + 1) (length-map row.spots.now place_of_spot)
 
 wide_least : (before : ℕ) (row : Row) (form : WideForm) → row.make ≡ M.Wide form → is_sound before row ≡ true
     → row.least ≡ length (places_in row)
@@ -42,15 +42,15 @@ wide_single row form makes = ap makes_pair makes
 wide_lowest : (bounds : Bounds) (row : Row) (form : WideForm) (bytes : List ℕ) (before said : Said) → row.make ≡ M.Wide form
     → IsReadOn bounds row.spots.now bytes before said
     → lowest (bounds_of bounds) (places_in row) (words_left bytes before)
-    ≡ min (lowest (bounds_of bounds) (map place_of row.spots.now) (words_left bytes before))
+    ≡ min (lowest (bounds_of bounds) (map place_of_spot row.spots.now) (words_left bytes before))
     (lowest (bounds_of bounds) (wide_place_of form ∷ []) (words_left bytes said))
 wide_lowest bounds row form bytes before said makes read =
-    let small : List Place = map place_of row.spots.now in
+    let small : List Place = map place_of_spot row.spots.now in
     let words : List (List ℕ) = words_left bytes before in
     ap (λ (ps : List Place). lowest (bounds_of bounds) ps words) (wide_places row form makes)
     ∙ lowest_append (bounds_of bounds) small (wide_place_of form ∷ []) words
     ∙ ap (λ (ws : List (List ℕ)). min (lowest (bounds_of bounds) small words) (lowest (bounds_of bounds) (wide_place_of form ∷ []) ws))
-    (ap (λ n. drop n words) (length-map row.spots.now place_of) ∙ sym read.left)
+    (ap (λ n. drop n words) (length-map row.spots.now place_of_spot) ∙ sym read.left)
 
 -- ---- without the wide number
 
@@ -102,14 +102,14 @@ wide_numbers : (bounds : Bounds) (row : Row) (form : WideForm) (bytes : List ℕ
     → row.make ≡ M.Wide form → IsReadOn bounds row.spots.now bytes before said → IsWideWord bounds form bytes said word end rank value
     → said.rank ≡ 9 → rank ≡ 9 → list_of said ++ value ∷ [] ≡ row_numbers row bytes before
 wide_numbers bounds row form bytes before said word end rank value makes read wide good its_good =
-    let small : List Place = map place_of row.spots.now in
+    let small : List Place = map place_of_spot row.spots.now in
     let words : List (List ℕ) = words_left bytes before in
     ap (λ ns. ns ++ value ∷ []) (read.numbers good)
     ∙ append_assoc (list_of before) (all_say small words) (value ∷ [])
     ∙ ap (λ ns. list_of before ++ (all_say small words ++ ns))
     (sym (wide.its_value its_good) ∙ sym (append-nil (says (wide_place_of form) word)))
     ∙ ap (λ (ws : List (List ℕ)). list_of before ++ (all_say small words ++ all_say (wide_place_of form ∷ []) ws))
-    (sym wide.words ∙ read.left ∙ ap (λ n. drop n words) (sym (length-map row.spots.now place_of)))
+    (sym wide.words ∙ read.left ∙ ap (λ n. drop n words) (sym (length-map row.spots.now place_of_spot)))
     ∙ ap (λ ns. list_of before ++ ns) (sym (says_append small (wide_place_of form ∷ []) words))
     ∙ ap (λ (ps : List Place). list_of before ++ all_say ps words) (sym (wide_places row form makes))
 

@@ -6,8 +6,11 @@ use Rattle.gc_graph.specs.Words.{is_text}
 use Rattle.gc_graph.specs.Forms.{Place}
 use Rattle.gc_graph.specs.Reasons.{Bounds, says, first_is, reason_of_words, command_of_words}
 use Rattle.line_words.specs.Cursor.{IsLineEnd}
-use Rattle.command_text.specs.declared.forms.SmallForm.TheVariants as F
-use Rattle.command_text.specs.declared.forms.WideForm.TheVariants as W
+use Rattle.command_text.specs.declared.making.OneForm.TheVariants as N
+use Rattle.command_text.specs.declared.making.TwoForm.TheVariants as T
+use Rattle.command_text.specs.declared.making.ThreeForm.TheVariants as H
+use Rattle.command_text.specs.declared.making.SmallForm.TheVariants as F
+use Rattle.command_text.specs.declared.wide.WideForm.TheVariants as W
 use Rattle.command_text.specs.declared.forms.Make.{Make}
 use Rattle.command_text.specs.declared.forms.Make.TheVariants as M
 use Rattle.command_text.specs.declared.forms.Row.{Row}
@@ -45,12 +48,12 @@ pub record IsQuickLine (bounds : Bounds) (words : List (List ℕ)) (bytes : List
 abbrev pub makes_frequent : Make → Bool
 makes_frequent (M.Small F.New) = true
 makes_frequent (M.Small F.Set) = true
-makes_frequent (M.Small F.Word) = true
-makes_frequent (M.Small F.Get) = true
-makes_frequent (M.Small F.Copy) = true
-makes_frequent (M.Small F.Drop) = true
-makes_frequent (M.Small F.Weak) = true
-makes_frequent (M.Small F.Read) = true
+makes_frequent (M.Small (F.Two T.Word)) = true
+makes_frequent (M.Small (F.Three H.Get)) = true
+makes_frequent (M.Small (F.Two T.Copy)) = true
+makes_frequent (M.Small (F.One N.Drop)) = true
+makes_frequent (M.Small (F.Two T.Weak)) = true
+makes_frequent (M.Small (F.Two T.Read)) = true
 makes_frequent (M.Wide W.Put) = true
 makes_frequent make = false
 

@@ -13,12 +13,20 @@ use Rattle.gc_graph.specs.Reasons.{Bounds as GrammarBounds}
 use Rattle.command_text.specs.declared.places.Bounds.{Bounds}
 use Rattle.command_text.specs.declared.forms.Spot.{Spot}
 use Rattle.command_text.specs.declared.forms.Spot.TheVariants as S
-use Rattle.command_text.specs.declared.forms.SmallForm.{SmallForm}
-use Rattle.command_text.specs.declared.forms.SmallForm.TheVariants as F
-use Rattle.command_text.specs.declared.forms.OrderForm.{OrderForm}
-use Rattle.command_text.specs.declared.forms.OrderForm.TheVariants as O
-use Rattle.command_text.specs.declared.forms.WideForm.{WideForm}
-use Rattle.command_text.specs.declared.forms.WideForm.TheVariants as W
+use Rattle.command_text.specs.declared.making.SmallForm.{SmallForm}
+use Rattle.command_text.specs.declared.making.SmallForm.TheVariants as F
+use Rattle.command_text.specs.declared.making.BareForm.{BareForm}
+use Rattle.command_text.specs.declared.making.BareForm.TheVariants as B
+use Rattle.command_text.specs.declared.making.OneForm.{OneForm}
+use Rattle.command_text.specs.declared.making.OneForm.TheVariants as N
+use Rattle.command_text.specs.declared.making.TwoForm.{TwoForm}
+use Rattle.command_text.specs.declared.making.TwoForm.TheVariants as T
+use Rattle.command_text.specs.declared.making.ThreeForm.{ThreeForm}
+use Rattle.command_text.specs.declared.making.ThreeForm.TheVariants as H
+use Rattle.command_text.specs.declared.making.OrderForm.{OrderForm}
+use Rattle.command_text.specs.declared.making.OrderForm.TheVariants as O
+use Rattle.command_text.specs.declared.wide.WideForm.{WideForm}
+use Rattle.command_text.specs.declared.wide.WideForm.TheVariants as W
 use Rattle.command_text.specs.declared.forms.Make.{Make}
 use Rattle.command_text.specs.declared.forms.Make.TheVariants as M
 use Rattle.command_text.specs.declared.forms.Row.{Row}
@@ -26,12 +34,12 @@ use Rattle.command_text.specs.declared.forms.Row.{Row}
 -- ---- places
 
 -- the place of the grammar that a spot stands for
-abbrev pub place_of : Spot → Place
-place_of (S.Number from last) = Number from (last + 1)
-place_of (S.NumberOrNull from last) = NumberOr (codes "-") from (last + 1)
-place_of S.TypeNumber = TypeNumber
-place_of S.Want = want
-place_of S.GoOrJoin = Either (codes "go") (codes "join")
+abbrev pub place_of_spot : Spot → Place
+place_of_spot (S.Number from last) = Number from (last + 1)
+place_of_spot (S.NumberOrNull from last) = NumberOr (codes "-") from (last + 1)
+place_of_spot S.TypeNumber = TypeNumber
+place_of_spot S.Want = want
+place_of_spot S.GoOrJoin = Either (codes "go") (codes "join")
 
 -- the word for null
 abbrev pub is_null : List ℕ → Bool
@@ -51,28 +59,44 @@ order_command_of O.Weaken = order_of_one (λ x. Q.Weaken x)
 order_command_of O.Upgrade = order_of_two (λ x y. Q.Upgrade x y)
 order_command_of O.Totals = order_of_none Q.Totals
 
+-- the command that has no number
+abbrev pub bare_command_of : BareForm → Command
+bare_command_of B.Pop = C.Pop
+bare_command_of B.Stat = C.Stat
+bare_command_of B.GcStart = C.GcStart
+
+-- the command that one number makes
+abbrev pub one_command_of : OneForm → ℕ → Command
+one_command_of N.Drop = λ p. C.Drop p
+one_command_of N.GcStep = λ n. C.GcStep n
+
+-- the command that two numbers make
+abbrev pub two_command_of : TwoForm → ℕ → ℕ → Command
+two_command_of T.Word = λ p f. C.Word p f
+two_command_of T.Copy = λ p q. C.Copy p q
+two_command_of T.Weak = λ w p. C.Weak w p
+two_command_of T.Read = λ w p. C.Read w p
+two_command_of T.Push = λ p o. C.Push p o
+two_command_of T.Peek = λ i q. C.Peek i q
+two_command_of T.Export = λ p x. C.Export p x
+two_command_of T.Import = λ x p. C.Import x p
+
+-- the command that three numbers make
+abbrev pub three_command_of : ThreeForm → ℕ → ℕ → ℕ → Command
+three_command_of H.Get = λ p f q. C.Get p f q
+three_command_of H.Key = λ p f q. C.Key p f q
+three_command_of H.Val = λ p f q. C.Val p f q
+
 -- the command that numbers of 32 bits make
 abbrev pub small_command_of : SmallForm → List ℕ → Option Command
+small_command_of (F.Bare form) = none (bare_command_of form)
+small_command_of (F.One form) = one (one_command_of form)
+small_command_of (F.Two form) = two (two_command_of form)
+small_command_of (F.Three form) = three (three_command_of form)
 small_command_of F.New = new_command
 small_command_of F.Set = set_command
 small_command_of F.Pair = pair_command
-small_command_of F.Word = two (λ p f. C.Word p f)
-small_command_of F.Get = three (λ p f q. C.Get p f q)
-small_command_of F.Key = three (λ p f q. C.Key p f q)
-small_command_of F.Val = three (λ p f q. C.Val p f q)
-small_command_of F.Copy = two (λ p q. C.Copy p q)
-small_command_of F.Drop = one (λ p. C.Drop p)
-small_command_of F.Weak = two (λ w p. C.Weak w p)
-small_command_of F.Read = two (λ w p. C.Read w p)
-small_command_of F.Push = two (λ p o. C.Push p o)
-small_command_of F.Pop = none C.Pop
-small_command_of F.Peek = two (λ i q. C.Peek i q)
-small_command_of F.Stat = none C.Stat
-small_command_of F.Export = two (λ p x. C.Export p x)
-small_command_of F.Import = two (λ x p. C.Import x p)
 small_command_of F.Threads = threads_command
-small_command_of F.GcStart = none C.GcStart
-small_command_of F.GcStep = one (λ n. C.GcStep n)
 small_command_of F.GcFinish = by_want (λ w. C.GcFinish w)
 small_command_of F.GcNow = by_want (λ w. C.GcNow w)
 small_command_of (F.At form) = order_command_of form
@@ -103,7 +127,7 @@ tail_of (M.Wide form) = wide_place_of form ∷ []
 
 -- all places of a row
 abbrev pub places_in : Row → List Place
-places_in row = map place_of row.spots.now ++ tail_of row.make
+places_in row = map place_of_spot row.spots.now ++ tail_of row.make
 
 -- the row of the grammar for which a row stands
 abbrev pub row_by : Row → GrammarRow

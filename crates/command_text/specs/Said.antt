@@ -9,7 +9,7 @@ use Rattle.command_text.specs.declared.places.Bounds.{Bounds}
 use Rattle.command_text.specs.declared.said.Said.{Said}
 use Rattle.line_words.specs.Cursor.{line_words, lines_after}
 use Rattle.command_text.specs.Ranks.{rank_at, lowest}
-use Rattle.command_text.specs.Rows.{bounds_of, place_of, agree}
+use Rattle.command_text.specs.Rows.{bounds_of, place_of_spot, agree}
 
 -- the numbers that are said
 abbrev pub list_of : Said → List ℕ
@@ -50,11 +50,11 @@ AreNullsSaid (place ∷ places) (word ∷ words) (value ∷ numbers) = IsNullSai
 pub record IsReadOn (bounds : Bounds) (spots : List Spot) (bytes : List ℕ) (old new : Said) : Type 0 where
   pub before : old.end ≤ new.end
   pub within : new.end ≤ length bytes
-  pub rank : new.rank ≡ min old.rank (lowest (bounds_of bounds) (map place_of spots) (words_left bytes old))
-  pub numbers : new.rank ≡ 9 → list_of new ≡ list_of old ++ all_say (map place_of spots) (words_left bytes old)
+  pub rank : new.rank ≡ min old.rank (lowest (bounds_of bounds) (map place_of_spot spots) (words_left bytes old))
+  pub numbers : new.rank ≡ 9 → list_of new ≡ list_of old ++ all_say (map place_of_spot spots) (words_left bytes old)
   pub more : List ℕ
   pub adds : list_of new ≡ list_of old ++ more
-  pub nulls : AreNullsSaid (map place_of spots) (words_left bytes old) more
+  pub nulls : AreNullsSaid (map place_of_spot spots) (words_left bytes old) more
   pub count : new.count ≡ old.count + min (length spots) (length (words_left bytes old))
   pub left : words_left bytes new ≡ drop (length spots) (words_left bytes old)
   pub lines : lines_after (drop old.end bytes) ≡ lines_after (drop new.end bytes)

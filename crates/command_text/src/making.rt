@@ -1,13 +1,75 @@
-// The command that the numbers of a line make.
+// The forms whose numbers have 32 bits, and the command that the numbers of a line make.
 
 ghost use Rattle.std.specs.Prelude.{◌≡◌, ◌==◌, ◌∷◌, [], ◌++◌, Some, None, if◌then◌else◌};
 ghost use Rattle.gc_graph.specs.Forms as spec;
-ghost use Rattle.command_text.specs.Rows.{order_command_of, small_command_of};
+ghost use Rattle.command_text.specs.Rows.{bare_command_of, one_command_of, order_command_of, small_command_of, three_command_of, two_command_of};
 ghost use Rattle.command_text.specs.Said.{list_of};
 
-use super::forms::{OrderForm, SmallForm};
 use super::said::Said;
 use gc_graph::{Command, Order, Want};
+
+/// The command that the numbers of a line make, where each has 32 bits: one that has no numbers, or
+/// one, two or three as they are. The other forms take them in a way of their own.
+#[derive(Clone, Copy)]
+pub(crate) enum SmallForm {
+    Bare(BareForm),
+    One(OneForm),
+    Two(TwoForm),
+    Three(ThreeForm),
+    New,
+    Set,
+    Pair,
+    Threads,
+    GcFinish,
+    GcNow,
+    At(OrderForm),
+}
+
+/// A command with no number.
+#[derive(Clone, Copy)]
+pub(crate) enum BareForm {
+    Pop,
+    Stat,
+    GcStart,
+}
+
+/// A command with one number.
+#[derive(Clone, Copy)]
+pub(crate) enum OneForm {
+    Drop,
+    GcStep,
+}
+
+/// A command with two numbers.
+#[derive(Clone, Copy)]
+pub(crate) enum TwoForm {
+    Word,
+    Copy,
+    Weak,
+    Read,
+    Push,
+    Peek,
+    Export,
+    Import,
+}
+
+/// A command with three numbers.
+#[derive(Clone, Copy)]
+pub(crate) enum ThreeForm {
+    Get,
+    Key,
+    Val,
+}
+
+/// The order for a thread that the numbers after the thread make.
+#[derive(Clone, Copy)]
+pub(crate) enum OrderForm {
+    Copy,
+    Clear,
+    Weaken,
+    Upgrade,
+    Totals,
+}
 
 #[tactic(auto, using(crate::proofs::Shapes::shapes))]
 #[inline(always)]
@@ -16,29 +78,65 @@ pub(crate) fn small_command(form: SmallForm, said: Said) -> Option<Command>
 {
     let (count, a, b, c) = (said.count, said.a, said.b, said.c);
     match form {
+        SmallForm::Bare(form) => when(count == 0, bare_command(form)),
+        SmallForm::One(form) => when(count == 1, one_command(form, a)),
+        SmallForm::Two(form) => when(count == 2, two_command(form, a, b)),
+        SmallForm::Three(form) => when(count == 3, three_command(form, a, b, c)),
         SmallForm::New => new_command(said),
         SmallForm::Set => set_command(said),
         SmallForm::Pair => pair_command(said),
-        SmallForm::Word => when(count == 2, Command::Word { p: a, f: b }),
-        SmallForm::Get => when(count == 3, Command::Get { p: a, f: b, q: c }),
-        SmallForm::Key => when(count == 3, Command::Key { p: a, f: b, q: c }),
-        SmallForm::Val => when(count == 3, Command::Val { p: a, f: b, q: c }),
-        SmallForm::Copy => when(count == 2, Command::Copy { p: a, q: b }),
-        SmallForm::Drop => when(count == 1, Command::Drop { p: a }),
-        SmallForm::Weak => when(count == 2, Command::Weak { w: a, p: b }),
-        SmallForm::Read => when(count == 2, Command::Read { w: a, p: b }),
-        SmallForm::Push => when(count == 2, Command::Push { p: a, o: b }),
-        SmallForm::Pop => when(count == 0, Command::Pop),
-        SmallForm::Peek => when(count == 2, Command::Peek { i: a, q: b }),
-        SmallForm::Stat => when(count == 0, Command::Stat),
-        SmallForm::Export => when(count == 2, Command::Export { p: a, x: b }),
-        SmallForm::Import => when(count == 2, Command::Import { x: a, p: b }),
         SmallForm::Threads => threads_command(said),
-        SmallForm::GcStart => when(count == 0, Command::GcStart),
-        SmallForm::GcStep => when(count == 1, Command::GcStep { n: a }),
         SmallForm::GcFinish => finish_command(said),
         SmallForm::GcNow => now_command(said),
         SmallForm::At(form) => order_command(form, said),
+    }
+}
+
+#[inline(always)]
+fn bare_command(form: BareForm) -> Command
+    ensures { result ≡ bare_command_of form }
+{
+    match form {
+        BareForm::Pop => Command::Pop,
+        BareForm::Stat => Command::Stat,
+        BareForm::GcStart => Command::GcStart,
+    }
+}
+
+#[inline(always)]
+fn one_command(form: OneForm, a: u32) -> Command
+    ensures { result ≡ one_command_of form a }
+{
+    match form {
+        OneForm::Drop => Command::Drop { p: a },
+        OneForm::GcStep => Command::GcStep { n: a },
+    }
+}
+
+#[inline(always)]
+fn two_command(form: TwoForm, a: u32, b: u32) -> Command
+    ensures { result ≡ two_command_of form a b }
+{
+    match form {
+        TwoForm::Word => Command::Word { p: a, f: b },
+        TwoForm::Copy => Command::Copy { p: a, q: b },
+        TwoForm::Weak => Command::Weak { w: a, p: b },
+        TwoForm::Read => Command::Read { w: a, p: b },
+        TwoForm::Push => Command::Push { p: a, o: b },
+        TwoForm::Peek => Command::Peek { i: a, q: b },
+        TwoForm::Export => Command::Export { p: a, x: b },
+        TwoForm::Import => Command::Import { x: a, p: b },
+    }
+}
+
+#[inline(always)]
+fn three_command(form: ThreeForm, a: u32, b: u32, c: u32) -> Command
+    ensures { result ≡ three_command_of form a b c }
+{
+    match form {
+        ThreeForm::Get => Command::Get { p: a, f: b, q: c },
+        ThreeForm::Key => Command::Key { p: a, f: b, q: c },
+        ThreeForm::Val => Command::Val { p: a, f: b, q: c },
     }
 }
 

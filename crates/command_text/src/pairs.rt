@@ -5,7 +5,7 @@ ghost use Rattle.command_text.specs.declared.forms.Make.{Make};
 ghost use Rattle.command_text.specs.Rows.{makes_pair};
 ghost use Rattle.command_text.specs.Said.{is_half_said};
 
-use super::forms::SmallForm;
+use super::making::SmallForm;
 use super::reasons::{BAD_NUMBER, FAULTLESS};
 use super::said::Said;
 

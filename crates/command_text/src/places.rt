@@ -4,7 +4,7 @@ ghost use Rattle.std.specs.Prelude.{◌≡◌, ◌≤◌, ◌==◌, ◌+◌, ◌
 ghost use Rattle.gc_graph.specs.Reasons.{says, is_beyond, value_of};
 ghost use Rattle.gc_graph.specs.Words.{is_number, is_text};
 ghost use Rattle.command_text.specs.Ranks.{number_rank, rank_at, rank_by};
-ghost use Rattle.command_text.specs.Rows.{bounds_of, is_null, place_of};
+ghost use Rattle.command_text.specs.Rows.{bounds_of, is_null, place_of_spot};
 ghost use Rattle.command_text.specs.Said.{IsNullSaid};
 
 use super::forms::Spot;
@@ -28,8 +28,8 @@ pub(crate) struct Reading {
 
 /// Reads a word at its place.
 pub(crate) fn read_place(spot: Spot, word: &[u8], bounds: Bounds) -> Reading
-    ensures rank { result.rank ≡ rank_at (bounds_of bounds) (place_of spot) word.now }
-    ensures value { result.rank ≡ 9 → says (place_of spot) word.now ≡ result.value ∷ [] }
+    ensures rank { result.rank ≡ rank_at (bounds_of bounds) (place_of_spot spot) word.now }
+    ensures value { result.rank ≡ 9 → says (place_of_spot spot) word.now ≡ result.value ∷ [] }
 {
     read_as(spot, word, number(word), bounds)
 }
@@ -39,9 +39,9 @@ pub(crate) fn read_place(spot: Spot, word: &[u8], bounds: Bounds) -> Reading
 #[tactic(auto, using(crate::proofs::PlacesRead::number_ranks))]
 pub(crate) fn read_as(spot: Spot, word: &[u8], value: Option<u64>, bounds: Bounds) -> Reading
     requires { value ≡ (if is_number word.now then Some (value_of word.now) else None) }
-    ensures rank { result.rank ≡ rank_at (bounds_of bounds) (place_of spot) word.now }
-    ensures value { result.rank ≡ 9 → says (place_of spot) word.now ≡ result.value ∷ [] }
-    ensures null { IsNullSaid (place_of spot) word.now result.value }
+    ensures rank { result.rank ≡ rank_at (bounds_of bounds) (place_of_spot spot) word.now }
+    ensures value { result.rank ≡ 9 → says (place_of_spot spot) word.now ≡ result.value ∷ [] }
+    ensures null { IsNullSaid (place_of_spot spot) word.now result.value }
 {
     match spot {
         Spot::Number(from, last) => judged(value, from, u64::from(last) + 1),

@@ -10,16 +10,16 @@ ghost use Rattle.line_words.specs.Cursor.{line_words};
 ghost use Rattle.line_words.specs.QuickWords.{IsFirstWord};
 ghost use Rattle.command_text.specs.QuickLines.{IsQuickLine, IsQuickStart, IsSaidFor, is_quick_row};
 ghost use Rattle.command_text.specs.RowLines.{IsRowLine};
-ghost use Rattle.command_text.specs.Rows.{IsLow, bounds_of, place_of, row_by, wide_place_of};
+ghost use Rattle.command_text.specs.Rows.{IsLow, bounds_of, place_of_spot, row_by, wide_place_of};
 ghost use Rattle.command_text.specs.Said.{IsPlaceRead, IsReadOn};
 
-use super::forms::{Make, Row, Spot, WideForm};
+use super::forms::{Make, Row, Spot};
 use super::making::small_command;
 use super::places::{Bounds, Reading};
 use super::reasons::FAULTLESS;
 use super::rows::{COPY, DROP, GET, NEW, PUT, READ, SET, WEAK, WORD};
 use super::said::{Said, nothing_said, with_word};
-use super::wide::wide_command;
+use super::wide::{WideForm, wide_command};
 use gc_graph::Command;
 use line_words::{Any, Small, begins, is_line_end, line_end, next_any, next_small};
 
@@ -176,7 +176,7 @@ fn quick_next(bytes: &[u8], row: &Row, place: usize, bounds: Bounds, said: Said)
 #[inline(always)]
 fn small_number(bytes: &[u8], from: usize, spot: Spot, bounds: Bounds) -> Option<Small>
     requires { from ≤ length bytes.now }
-    ensures { IfSome result (λ number. IsPlaceRead (bounds_of bounds) (place_of spot) bytes.now
+    ensures { IfSome result (λ number. IsPlaceRead (bounds_of bounds) (place_of_spot spot) bytes.now
         from number.end 9 number.value) }
 {
     let range = range_of(spot, bounds)?;
@@ -200,7 +200,7 @@ fn range_of(spot: Spot, bounds: Bounds) -> Option<Range>
     ensures fits { IfSome result (λ range. range.limit + range.more ≤ 2 ^ 32) }
     ensures says { IfSome result (λ range. (word : List ℕ) → is_number word ≡ true
         → value_of word < range.limit
-        → IsSaidFor (bounds_of bounds) (place_of spot) word (value_of word + range.more)) }
+        → IsSaidFor (bounds_of bounds) (place_of_spot spot) word (value_of word + range.more)) }
 {
     match spot {
         Spot::Number(0, last) => Some(Range {

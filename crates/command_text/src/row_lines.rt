@@ -4,13 +4,13 @@ ghost use Rattle.std.specs.Prelude.{◌≡◌, ◌==◌, ◌||◌, ◌≤◌, tr
 ghost use Rattle.command_text.specs.RowLines.{IsRowLine, row_numbers, row_rank};
 ghost use Rattle.command_text.specs.Rows.{command_of, is_sound, makes_pair, pair_places, places_in};
 
-use super::forms::{Make, Row, SmallForm, WideForm};
-use super::making::small_command;
+use super::forms::{Make, Row};
+use super::making::{SmallForm, small_command};
 use super::pairs::half_rank;
 use super::places::Bounds;
 use super::reasons::{COUNT, FAULTLESS};
 use super::said::{Said, read_places};
-use super::wide::{read_wide, wide_command};
+use super::wide::{WideForm, read_wide, wide_command};
 use gc_graph::Command;
 use line_words::next_word;
 

@@ -4,11 +4,13 @@ ghost use Rattle.std.specs.Prelude.{◌≡◌, true, IfSome};
 ghost use Rattle.gc_graph.specs.Forms.{row_named, rows, gc_rows, at_rows};
 ghost use Rattle.command_text.specs.Rows.{SameRow, is_plain_row, is_gc_row, is_at_row};
 
-use super::forms::{Make, OrderForm, Row, SmallForm, Spot, WideForm};
+use super::forms::{Make, Row, Spot};
+use super::making::{BareForm, OneForm, OrderForm, SmallForm, ThreeForm, TwoForm};
 use super::row_search::{likely_place, row_in, row_near};
 use super::spots::{
     EXTRA_WORDS, FIELD, OBJECTS, REGION_SLOT, SLOT, SLOT_OR_NULL, STACK_PLACE, WEAK_SLOT,
 };
+use super::wide::WideForm;
 
 // The rows of the most frequent lines stand by themselves, since these are read by a row each.
 pub(crate) const NEW: Row = Row {
@@ -36,42 +38,42 @@ pub(crate) const WORD: Row = Row {
     name: b"word",
     spots: &[SLOT, FIELD],
     least: 2,
-    make: Make::Small(SmallForm::Word),
+    make: Make::Small(SmallForm::Two(TwoForm::Word)),
 };
 
 pub(crate) const GET: Row = Row {
     name: b"get",
     spots: &[SLOT, FIELD, SLOT],
     least: 3,
-    make: Make::Small(SmallForm::Get),
+    make: Make::Small(SmallForm::Three(ThreeForm::Get)),
 };
 
 pub(crate) const COPY: Row = Row {
     name: b"copy",
     spots: &[SLOT, SLOT],
     least: 2,
-    make: Make::Small(SmallForm::Copy),
+    make: Make::Small(SmallForm::Two(TwoForm::Copy)),
 };
 
 pub(crate) const DROP: Row = Row {
     name: b"drop",
     spots: &[SLOT],
     least: 1,
-    make: Make::Small(SmallForm::Drop),
+    make: Make::Small(SmallForm::One(OneForm::Drop)),
 };
 
 pub(crate) const WEAK: Row = Row {
     name: b"weak",
     spots: &[WEAK_SLOT, SLOT],
     least: 2,
-    make: Make::Small(SmallForm::Weak),
+    make: Make::Small(SmallForm::Two(TwoForm::Weak)),
 };
 
 pub(crate) const READ: Row = Row {
     name: b"read",
     spots: &[WEAK_SLOT, SLOT],
     least: 2,
-    make: Make::Small(SmallForm::Read),
+    make: Make::Small(SmallForm::Two(TwoForm::Read)),
 };
 
 static ROWS: [Row; 21] = [
@@ -90,13 +92,13 @@ static ROWS: [Row; 21] = [
         name: b"key",
         spots: &[SLOT, FIELD, SLOT],
         least: 3,
-        make: Make::Small(SmallForm::Key),
+        make: Make::Small(SmallForm::Three(ThreeForm::Key)),
     },
     Row {
         name: b"val",
         spots: &[SLOT, FIELD, SLOT],
         least: 3,
-        make: Make::Small(SmallForm::Val),
+        make: Make::Small(SmallForm::Three(ThreeForm::Val)),
     },
     COPY,
     DROP,
@@ -106,7 +108,7 @@ static ROWS: [Row; 21] = [
         name: b"push",
         spots: &[SLOT, FIELD],
         least: 2,
-        make: Make::Small(SmallForm::Push),
+        make: Make::Small(SmallForm::Two(TwoForm::Push)),
     },
     Row {
         name: b"push#",
@@ -118,13 +120,13 @@ static ROWS: [Row; 21] = [
         name: b"pop",
         spots: &[],
         least: 0,
-        make: Make::Small(SmallForm::Pop),
+        make: Make::Small(SmallForm::Bare(BareForm::Pop)),
     },
     Row {
         name: b"peek",
         spots: &[STACK_PLACE, SLOT],
         least: 2,
-        make: Make::Small(SmallForm::Peek),
+        make: Make::Small(SmallForm::Two(TwoForm::Peek)),
     },
     Row {
         name: b"sweep",
@@ -136,19 +138,19 @@ static ROWS: [Row; 21] = [
         name: b"stat",
         spots: &[],
         least: 0,
-        make: Make::Small(SmallForm::Stat),
+        make: Make::Small(SmallForm::Bare(BareForm::Stat)),
     },
     Row {
         name: b"export",
         spots: &[SLOT, REGION_SLOT],
         least: 2,
-        make: Make::Small(SmallForm::Export),
+        make: Make::Small(SmallForm::Two(TwoForm::Export)),
     },
     Row {
         name: b"import",
         spots: &[REGION_SLOT, SLOT],
         least: 2,
-        make: Make::Small(SmallForm::Import),
+        make: Make::Small(SmallForm::Two(TwoForm::Import)),
     },
     Row {
         name: b"threads",
@@ -163,13 +165,13 @@ static GC_ROWS: [Row; 4] = [
         name: b"start",
         spots: &[],
         least: 0,
-        make: Make::Small(SmallForm::GcStart),
+        make: Make::Small(SmallForm::Bare(BareForm::GcStart)),
     },
     Row {
         name: b"step",
         spots: &[OBJECTS],
         least: 1,
-        make: Make::Small(SmallForm::GcStep),
+        make: Make::Small(SmallForm::One(OneForm::GcStep)),
     },
     Row {
         name: b"finish",

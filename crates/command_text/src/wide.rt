@@ -8,12 +8,20 @@ ghost use Rattle.command_text.specs.Ranks.{rank_at, rank_by};
 ghost use Rattle.command_text.specs.Rows.{IsLow, wide_command_of, wide_place_of};
 ghost use Rattle.command_text.specs.Said.{list_of};
 
-use super::forms::WideForm;
 use super::making::when;
 use super::reasons::{BAD_NUMBER, FAULTLESS, RANGE};
 use super::said::Said;
 use gc_graph::Command;
 use line_words::number;
+
+/// The command that the numbers of a line make, where the last one may have 64 bits or is one more
+/// than 32 bits hold.
+#[derive(Clone, Copy)]
+pub(crate) enum WideForm {
+    Put,
+    PushPlain,
+    Sweep,
+}
 
 /// The number of the lowest reason that a word gives, or 9; and the number that the word says, which
 /// counts only there.

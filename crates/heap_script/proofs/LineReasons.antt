@@ -11,7 +11,7 @@ use Rattle.gc_graph.specs.Script.Threads.{AtRest, Waiting, Going}
 use Rattle.heap_script.specs.declared.past.Past.{Past}
 use Rattle.heap_script.specs.declared.past.Stage.{Stage}
 use Rattle.heap_script.specs.declared.past.Stage.TheVariants as S
-use Rattle.heap_script.specs.Past.{threads_in, stage_after, breaks, bounds_in, reason_with, reason_after, IsReasonOf}
+use Rattle.heap_script.specs.Past.{threads_of_stage, stage_after, breaks, bounds_in, reason_with, reason_after, IsReasonOf}
 use Rattle.heap_script.specs.TypeLines.{reason_of_type}
 use Rattle.heap_script.proofs.Sections.{is_at, is_threads_go, is_threads_join, HasPlace, has_place}
 use Rattle.heap_script.proofs.TypeReasons.{type_reason}
@@ -43,8 +43,8 @@ type_fine callbacks past more fine bare =
 
 abbrev section_by : Bool → Bool → Bool → Stage → Bool
 section_by order go join stage =
-    (order && are_going (threads_in stage))
-    || ((go && not (are_waiting (threads_in stage))) || ((join && not (are_going (threads_in stage))) || false))
+    (order && are_going (threads_of_stage stage))
+    || ((go && not (are_waiting (threads_of_stage stage))) || ((join && not (are_going (threads_of_stage stage))) || false))
 
 breaks_by : (stage : Stage) (command : Command) → section_by (is_at command) (is_threads_go command) (is_threads_join command) stage ≡ breaks stage command
 breaks_by S.AtRest (C.At j order) = refl
@@ -59,7 +59,7 @@ breaks_by S.Going C.ThreadsJoin = refl
 breaks_by stage command = refl
 
 breaks_is : (stage : Stage) (words : List (List ℕ)) (command : Command) → HasPlace words command
-    → breaks_section (threads_in stage) words false ≡ breaks stage command
+    → breaks_section (threads_of_stage stage) words false ≡ breaks stage command
 breaks_is stage words command place =
     ap (λ b. section_by b (is_go words) (is_join words) stage) place.order
     ∙ ap (λ b. section_by (is_at command) b (is_join words) stage) place.go
@@ -70,18 +70,18 @@ abbrev threads_by : Bool → Bool → Bool → Threads → Threads
 threads_by order go join threads = cond order Waiting (cond go Going (cond join AtRest threads))
 
 threads_with : (stage : Stage) (command : Command)
-    → threads_by (is_at command) (is_threads_go command) (is_threads_join command) (threads_in stage) ≡ threads_in (stage_after stage command)
+    → threads_by (is_at command) (is_threads_go command) (is_threads_join command) (threads_of_stage stage) ≡ threads_of_stage (stage_after stage command)
 threads_with stage (C.At j order) = refl
 threads_with stage C.ThreadsGo = refl
 threads_with stage C.ThreadsJoin = refl
 threads_with stage command = refl
 
 threads_is : (stage : Stage) (words : List (List ℕ)) (command : Command) → HasPlace words command
-    → threads_after (threads_in stage) words ≡ threads_in (stage_after stage command)
+    → threads_after (threads_of_stage stage) words ≡ threads_of_stage (stage_after stage command)
 threads_is stage words command place =
-    ap (λ b. threads_by b (is_go words) (is_join words) (threads_in stage)) place.order
-    ∙ ap (λ b. threads_by (is_at command) b (is_join words) (threads_in stage)) place.go
-    ∙ ap (λ b. threads_by (is_at command) (is_threads_go command) b (threads_in stage)) place.join
+    ap (λ b. threads_by b (is_go words) (is_join words) (threads_of_stage stage)) place.order
+    ∙ ap (λ b. threads_by (is_at command) b (is_join words) (threads_of_stage stage)) place.go
+    ∙ ap (λ b. threads_by (is_at command) (is_threads_go command) b (threads_of_stage stage)) place.join
     ∙ threads_with stage command
 
 -- the reason of a command whose words have none
@@ -90,7 +90,7 @@ with_section : (callbacks : ℕ) (past : Past) (words : List (List ℕ)) (comman
     → reason_after callbacks past words ≡ cond (breaks past.stage command) (Some Section) None
 with_section callbacks past words command says fine plain =
     ap (reason_with past words) fine
-    ∙ cond-false (first_is (codes "type") words && not past.bare) (Some Order) (cond (breaks_section (threads_in past.stage) words false) (Some Section) None)
+    ∙ cond-false (first_is (codes "type") words && not past.bare) (Some Order) (cond (breaks_section (threads_of_stage past.stage) words false) (Some Section) None)
     (and_left (first_is (codes "type") words) (not past.bare) plain)
     ∙ ap (λ b. cond b (Some Section) None) (breaks_is past.stage words command (has_place (bounds_in callbacks past) words command plain fine says))
 
@@ -118,7 +118,7 @@ own_fine past words None e = refl
 
 pub threads_after_line : (callbacks : ℕ) (past : Past) (words : List (List ℕ)) (command : Command) → command_of_words words ≡ Some command
     → first_is (codes "type") words ≡ false → reason_after callbacks past words ≡ None
-    → threads_after (threads_in past.stage) words ≡ threads_in (stage_after past.stage command)
+    → threads_after (threads_of_stage past.stage) words ≡ threads_of_stage (stage_after past.stage command)
 threads_after_line callbacks past words command says plain fine =
     threads_is past.stage words command (has_place (bounds_in callbacks past) words command plain
     (own_fine past words (reason_of_words (bounds_in callbacks past) words) fine) says)

@@ -17,7 +17,7 @@ use Rattle.gc_graph.specs.Script.{Threads, is_type, is_command, threads_of, thre
 use Rattle.gc_graph.specs.Script.Threads.{AtRest}
 use Rattle.heap_script.specs.declared.past.Past.{Past}
 use Rattle.heap_script.specs.declared.script_lines.Kept.{Kept}
-use Rattle.heap_script.specs.Past.{threads_in, past_header, with_blank, bounds_in, reason_with, reason_after, IsTypeKept, IsCommandKept}
+use Rattle.heap_script.specs.Past.{threads_of_stage, past_header, with_blank, bounds_in, reason_with, reason_after, IsTypeKept, IsCommandKept}
 use Rattle.heap_script.proofs.LineReasons.{threads_after_line}
 use Rattle.heap_script.proofs.LinesJudged.{judged, judged_words}
 use Rattle.heap_script.proofs.LinesInTurn.{none_of_blank}
@@ -34,7 +34,7 @@ commands_of lines = filter_map (λ line. command_of_words (words_of line)) lines
 pub record IsPast (before : List (List ℕ)) (past : Past) (types : List ObjectType) (commands : List Command) : Type 0 where
   pub counted : count_by is_type before ≡ past.types
   pub bare : list_any is_command before ≡ not past.bare
-  pub threads : threads_of before ≡ threads_in past.stage
+  pub threads : threads_of before ≡ threads_of_stage past.stage
   pub types_are : types ≡ types_of before
   pub commands_are : commands ≡ commands_of before
 
@@ -159,7 +159,7 @@ past_command callbacks lines n old new words low read are some fine kept =
 -- ---- the reason of the next line
 
 by_past : (before words : List (List ℕ)) (past : Past) (own : Option Reason) → list_any is_command before ≡ not past.bare
-    → threads_of before ≡ threads_in past.stage → reason_by_order before words false own ≡ reason_with past words own
+    → threads_of before ≡ threads_of_stage past.stage → reason_by_order before words false own ≡ reason_with past words own
 by_past before words past (Some own) bare threads = refl
 by_past before words past None bare threads =
     ap (λ b. cond (first_is (codes "type") words && b) (Some Order) (cond (breaks_section (threads_of before) words false) (Some Section) None)) bare

@@ -9,7 +9,7 @@ use Rattle.gc_graph.specs.Script.{threads_of, threads_after}
 use Rattle.gc_graph.specs.Script.Threads.{AtRest}
 use Rattle.heap_script.specs.declared.past.Past.{Past}
 use Rattle.heap_script.specs.declared.script_lines.Kept.{Kept}
-use Rattle.heap_script.specs.Past.{threads_in, past_header, with_blank, reason_after, IsLineKept, IsLineRead}
+use Rattle.heap_script.specs.Past.{threads_of_stage, past_header, with_blank, reason_after, IsLineKept, IsLineRead}
 use Rattle.heap_script.proofs.LinesJudged.{judged}
 use Rattle.heap_script.proofs.PastLines.{IsPast, nothing_read, past_blank, past_type, past_command, threads_more, judged_is}
 
@@ -19,10 +19,10 @@ pub record IsLast (lines : List (List ℕ)) (n : ℕ) (past : Past) : Type 0 whe
   pub within : past.last ≤ n + 1
   pub blank : (j : ℕ) → j < n → past.last ≤ j + 1 → is_blank (get_or lines j []) ≡ true
   pub ended :
-      ((past.last ≡ 1) × (threads_in past.stage ≡ AtRest))
+      ((past.last ≡ 1) × (threads_of_stage past.stage ≡ AtRest))
       ⊎ ((k : ℕ)
       × (past.last ≡ k + 2) × (k < n) × (is_blank (get_or lines k []) ≡ false)
-      × (threads_after (threads_of (take k lines)) (words_of (get_or lines k [])) ≡ threads_in past.stage))
+      × (threads_after (threads_of (take k lines)) (words_of (get_or lines k [])) ≡ threads_of_stage past.stage))
 
 -- n lines after the header were read, and say this
 pub record IsReadTo (callbacks : ℕ) (lines : List (List ℕ)) (n : ℕ) (past : Past) (types : List ObjectType) (commands : List Command) : Type 0 where
@@ -97,7 +97,7 @@ words_more callbacks lines more n line past next types new_types commands new_co
     let ws : words_of (get_or lines n []) ≡ words = ap words_of at ∙ are in
     let here : judged callbacks (take n lines) (get_or lines n []) ≡ None =
     judged_is callbacks (take n lines) words (get_or lines n []) past types commands read.say blank ws ∙ fine in
-    let threads : threads_after (threads_of (take n lines)) (words_of (get_or lines n [])) ≡ threads_in next.stage =
+    let threads : threads_after (threads_of (take n lines)) (words_of (get_or lines n [])) ≡ threads_of_stage next.stage =
     ap (threads_after (threads_of (take n lines))) ws ∙ sym (threads_more lines n words low ws) ∙ say.threads in
     record {
       count = omega (arith, read.count, count);

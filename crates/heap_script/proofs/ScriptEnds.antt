@@ -14,9 +14,9 @@ use Rattle.gc_graph.specs.Script.{IsInLimits, IsFirstFault, is_header, are_at_re
 use Rattle.heap_script.specs.declared.script.ScriptFault.{ScriptFault}
 use Rattle.heap_script.specs.Scripts.{IsFaultOf}
 use Rattle.heap_script.specs.declared.past.Past.{Past}
-use Rattle.heap_script.specs.Past.{threads_in, IsReasonOf, reason_after}
+use Rattle.heap_script.specs.Past.{threads_of_stage, IsReasonOf, reason_after}
 use Rattle.heap_script.specs.declared.script_lines.Kept.{Kept}
-use Rattle.heap_script.specs.Reading.{IsWhole, fault_with}
+use Rattle.heap_script.specs.Reading.{IsWholeScript, fault_with}
 use Rattle.heap_script.proofs.LinesJudged.{judged, blank_fine, as_judged, found_fault, at_rest_fine, last_fault, all_blank, words_follow, at_line}
 use Rattle.heap_script.proofs.PastLines.{types_of, commands_of, judged_is}
 use Rattle.heap_script.proofs.ReadSoFar.{IsReadTo, next_there, next_is}
@@ -71,8 +71,8 @@ module _ (callbacks : ℕ) (header : List ℕ) (lines : List (List ℕ)) (n : �
       ∙ blank_fine callbacks header (get_or lines j []) (take j lines) (drop (j + 1) lines) (read.last.blank j (omega arith) late)
 
   -- the last line with words, and those around it
-  fine_around : are_at_rest (threads_in past.stage) ≡ true → (k : ℕ) → past.last ≡ k + 2 → k < n → is_blank (get_or lines k []) ≡ false
-      → threads_after (threads_of (take k lines)) (words_of (get_or lines k [])) ≡ threads_in past.stage
+  fine_around : are_at_rest (threads_of_stage past.stage) ≡ true → (k : ℕ) → past.last ≡ k + 2 → k < n → is_blank (get_or lines k []) ≡ false
+      → threads_after (threads_of (take k lines)) (words_of (get_or lines k [])) ≡ threads_of_stage past.stage
       → (j : ℕ) → j < length lines → reason_at callbacks (header ∷ lines) (suc j) ≡ None
   fine_around rest k last low some after j within = elim (cases_order j k) [
     | inl same ↦ subst (λ m. reason_at callbacks (header ∷ lines) (suc m) ≡ None) (sym same)
@@ -82,7 +82,7 @@ module _ (callbacks : ℕ) (header : List ℕ) (lines : List (List ℕ)) (n : �
     | inr (inr later) ↦ fine_blank j within (omega (arith, last))
   ]
 
-  fine_line : are_at_rest (threads_in past.stage) ≡ true → (j : ℕ) → j < length lines → reason_at callbacks (header ∷ lines) (suc j) ≡ None
+  fine_line : are_at_rest (threads_of_stage past.stage) ≡ true → (j : ℕ) → j < length lines → reason_at callbacks (header ∷ lines) (suc j) ≡ None
   fine_line rest j within = elim read.last.ended [
     | inl none ↦ fine_blank j within (omega (arith, none.0))
     | inr found ↦ fine_around rest found.0 found.1 found.2 found.3 found.4 j within
@@ -215,9 +215,9 @@ module _ (callbacks : ℕ) (bytes header : List ℕ) (lines : List (List ℕ)) (
 
   -- the threads aren't at rest after the last line with words
   section_line : (n : ℕ) (past : Past) (types : List ObjectType) (commands : List Command) → IsReadTo callbacks lines n past types commands
-      → length lines ≤ n → length (lines_of bytes) ≤ 1000000 → are_at_rest (threads_in past.stage) ≡ false
+      → length lines ≤ n → length (lines_of bytes) ≤ 1000000 → are_at_rest (threads_of_stage past.stage) ≡ false
       → (k : ℕ) → past.last ≡ k + 2 → k < n → is_blank (get_or lines k []) ≡ false
-      → threads_after (threads_of (take k lines)) (words_of (get_or lines k [])) ≡ threads_in past.stage
+      → threads_after (threads_of (take k lines)) (words_of (get_or lines k [])) ≡ threads_of_stage past.stage
       → IsFaultyLine callbacks bytes (record { line = past.last; reason = 7 })
   section_line n past types commands read end few busy k last low some after =
       let blanks : list_all is_blank (drop (k + 1) lines) ≡ true =
@@ -239,7 +239,7 @@ module _ (callbacks : ℕ) (bytes header : List ℕ) (lines : List (List ℕ)) (
       }
 
   pub section_stop : (n : ℕ) (past : Past) (types : List ObjectType) (commands : List Command) → IsReadTo callbacks lines n past types commands
-      → drop n lines ≡ [] → past.lines ≤ 1000000 → are_at_rest (threads_in past.stage) ≡ false
+      → drop n lines ≡ [] → past.lines ≤ 1000000 → are_at_rest (threads_of_stage past.stage) ≡ false
       → IsFaultOf callbacks bytes (record { line = past.last; reason = 7 })
   section_stop n past types commands read none few busy =
       let end : length lines ≤ n = omega (arith, length-drop n lines, ap length none) in
@@ -250,7 +250,7 @@ module _ (callbacks : ℕ) (bytes header : List ℕ) (lines : List (List ℕ)) (
       ]
 
   pub all_read : (n : ℕ) (kept : Kept) → IsReadTo callbacks lines n kept.past kept.types.items kept.commands.items
-      → drop n lines ≡ [] → kept.past.lines ≤ 1000000 → are_at_rest (threads_in kept.past.stage) ≡ true → IsWhole callbacks bytes kept
+      → drop n lines ≡ [] → kept.past.lines ≤ 1000000 → are_at_rest (threads_of_stage kept.past.stage) ≡ true → IsWholeScript callbacks bytes kept
   all_read n kept read none few rest =
       let end : length lines ≤ n = omega (arith, length-drop n lines, ap length none) in
       let low : length (lines_of bytes) ≤ 1000000 = omega (arith, ap length are, few, read.count, end) in

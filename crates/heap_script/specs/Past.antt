@@ -15,10 +15,10 @@ use Rattle.heap_script.specs.declared.past.Stage.TheVariants as S
 -- ---- the threads
 
 -- the state of the threads, as the grammar says it
-abbrev pub threads_in : Stage → Threads
-threads_in S.AtRest = AtRest
-threads_in S.Waiting = Waiting
-threads_in S.Going = Going
+abbrev pub threads_of_stage : Stage → Threads
+threads_of_stage S.AtRest = AtRest
+threads_of_stage S.Waiting = Waiting
+threads_of_stage S.Going = Going
 
 -- orders wait
 abbrev pub is_waiting : Stage → Bool
@@ -87,7 +87,7 @@ abbrev pub reason_with : Past → List (List ℕ) → Option Reason → Option R
 reason_with past words (Some reason) = Some reason
 reason_with past words None =
     if first_is (codes "type") words && not past.bare then Some Order
-    else if breaks_section (threads_in past.stage) words false then Some Section
+    else if breaks_section (threads_of_stage past.stage) words false then Some Section
     else None
 
 -- the lowest reason of a line with these words, where others with words follow

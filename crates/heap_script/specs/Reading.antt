@@ -5,8 +5,8 @@ use Rattle.heap_script.specs.declared.script.ScriptFault.{ScriptFault}
 use Rattle.heap_script.specs.declared.script_lines.Kept.{Kept}
 
 -- the whole bytes are a script, and this is what it says
-abbrev pub IsWhole : ℕ → List ℕ → Kept → Type 0
-IsWhole callbacks bytes kept = IsScript callbacks bytes (record { types = kept.types.items; commands = kept.commands.items })
+abbrev pub IsWholeScript : ℕ → List ℕ → Kept → Type 0
+IsWholeScript callbacks bytes kept = IsScript callbacks bytes (record { types = kept.types.items; commands = kept.commands.items })
 
 -- a fault that was found on a line after so many, where the bytes have so many lines in all
 abbrev pub fault_with : ℕ → ℕ → ℕ → ScriptFault

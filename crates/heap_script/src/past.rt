@@ -103,7 +103,7 @@ impl Past {
 
     /// Whether no order waits and no thread runs.
     pub(crate) fn is_at_rest(&self) -> bool
-        ensures { result ≡ are_at_rest (spec.threads_in self.now.stage) }
+        ensures { result ≡ are_at_rest (spec.threads_of_stage self.now.stage) }
     {
         self.stage.is_at_rest()
     }
@@ -111,7 +111,7 @@ impl Past {
 
 impl Stage {
     fn is_at_rest(self) -> bool
-        ensures { result ≡ are_at_rest (spec.threads_in self) }
+        ensures { result ≡ are_at_rest (spec.threads_of_stage self) }
     {
         matches!(self, Stage::AtRest)
     }

@@ -5,7 +5,7 @@ ghost use Rattle.std.specs.Prelude.{IfOk, IfErr};
 ghost use Rattle.gc_graph.specs.Script.{is_header};
 ghost use Rattle.gc_graph.specs.Words.{lines_of};
 ghost use Rattle.line_words.specs.Cursor.{first_line};
-ghost use Rattle.heap_script.specs.Reading.{IsWhole, fault_with};
+ghost use Rattle.heap_script.specs.Reading.{IsWholeScript, fault_with};
 ghost use Rattle.heap_script.specs.Scripts.{IsFaultOf};
 
 use super::lines::{count_from, header_end, next_line};
@@ -20,7 +20,7 @@ const MOST_BYTES: usize = 16_777_216;
 const MOST_LINES: u32 = 1_000_000;
 
 pub(crate) fn read_lines(alloc: Global, bytes: &[u8], callbacks: u32) -> Result<Kept, ScriptFault>
-    ensures whole { IfOk result (IsWhole callbacks bytes.now) }
+    ensures whole { IfOk result (IsWholeScript callbacks bytes.now) }
     ensures fault { IfErr result (IsFaultOf callbacks bytes.now) }
 {
     if bytes.len() > MOST_BYTES {
@@ -38,7 +38,7 @@ fn read_after(alloc: Global, bytes: &[u8], from: usize, callbacks: u32) -> Resul
     requires within { from ≤ length bytes.now }
     requires header { is_header (first_line bytes.now) ≡ true }
     requires lines { lines_of bytes.now ≡ first_line bytes.now ∷ lines_of (drop from bytes.now) }
-    ensures whole { IfOk result (IsWhole callbacks bytes.now) }
+    ensures whole { IfOk result (IsWholeScript callbacks bytes.now) }
     ensures fault { IfErr result (IsFaultOf callbacks bytes.now) }
 {
     let mut kept = Kept {

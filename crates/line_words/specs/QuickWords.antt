@@ -13,7 +13,7 @@ pub record IsFirstWord (bytes : List ℕ) (at : ℕ) (word : List ℕ) : Type 0 
   pub same : lines_after (drop at bytes) ≡ lines_after (drop (at + length word) bytes)
 
 -- the next word of the line, from `from` on, is this number, which is below the limit
-pub record IsSmall (bytes : List ℕ) (from limit : ℕ) (small : Small) : Type 0 where
+pub record IsSmallNumber (bytes : List ℕ) (from limit : ℕ) (small : Small) : Type 0 where
   pub word : List ℕ
   pub words : line_words (drop from bytes) ≡ word ∷ line_words (drop small.end bytes)
   pub number : is_number word ≡ true
@@ -24,7 +24,7 @@ pub record IsSmall (bytes : List ℕ) (from limit : ℕ) (small : Small) : Type 
   pub same : lines_after (drop from bytes) ≡ lines_after (drop small.end bytes)
 
 -- the next word of the line, from `from` on, is this number, which is any of 64 bits
-pub record IsAny (bytes : List ℕ) (from : ℕ) (any : Any) : Type 0 where
+pub record IsAnyNumber (bytes : List ℕ) (from : ℕ) (any : Any) : Type 0 where
   pub word : List ℕ
   pub words : line_words (drop from bytes) ≡ word ∷ line_words (drop any.end bytes)
   pub number : is_number word ≡ true

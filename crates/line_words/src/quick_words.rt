@@ -3,7 +3,7 @@
 ghost use Rattle.std.specs.Prelude.{◌≡◌, ◌<◌, ◌≤◌, ◌==◌, true, length, slice_index, IfSome, IsSome, ◌↔◌, if◌then◌else◌};
 ghost use Rattle.std.specs.List.{list_all};
 ghost use Rattle.line_words.specs.Cursor.{is_word_byte};
-ghost use Rattle.line_words.specs.QuickWords.{IsFirstWord, IsSmall, IsAny, IsEndOfWords};
+ghost use Rattle.line_words.specs.QuickWords.{IsFirstWord, IsSmallNumber, IsAnyNumber, IsEndOfWords};
 
 use super::cursor::past_spaces;
 use super::numerals::{few_digits, next_number, short_number};
@@ -40,7 +40,7 @@ pub fn begins(bytes: &[u8], at: usize, word: &[u8]) -> bool
 #[inline(always)]
 pub fn next_small(bytes: &[u8], from: usize, limit: u32) -> Option<Small>
     requires { from ≤ length bytes.now }
-    ensures { IfSome result (IsSmall bytes.now from limit) }
+    ensures { IfSome result (IsSmallNumber bytes.now from limit) }
 {
     if let Some((end, value)) = short_number(bytes, from) {
         return below(value, end, limit);
@@ -69,7 +69,7 @@ fn below(value: u64, end: usize, limit: u32) -> Option<Small>
 #[inline(always)]
 pub fn next_any(bytes: &[u8], from: usize) -> Option<Any>
     requires { from ≤ length bytes.now }
-    ensures { IfSome result (IsAny bytes.now from) }
+    ensures { IfSome result (IsAnyNumber bytes.now from) }
 {
     let word = next_number(bytes, from);
     let value = word.value?;

@@ -2,7 +2,7 @@
 use Rattle.std.proofs.Common.{◌≡◌, ℕ, ◌+◌, List, [], ◌++◌, take, drop, Option, Some, None, refl, sym, ap, ◌∙◌, subst}
 use Rattle.std.proofs.lemmas.List.{drop-drop, append-nil, append_assoc, take-append-drop}
 use Rattle.text_devices.specs.Devices.{Grew, GrewByFront}
-use Rattle.report_text.specs.Pieces.{PiecesState, with_held, TookMore}
+use Rattle.report_text.specs.Pieces.{PiecesState, with_held_back, TookMore}
 
 pub Grew-then : (a b c : Option (List ℕ)) (s t : List ℕ) → Grew a b s → Grew b c t → Grew a c (s ++ t)
 Grew-then None b c s t x y = subst (λ o. Grew o c t) x y
@@ -17,10 +17,10 @@ taken_more a b c text m g = record { text = m.text ++ text; grew = Grew-then a b
 
 -- what the sink takes from the front of what is held is no longer held
 pub same_told : (a b : Option (List ℕ)) (old new : PiecesState) (n : ℕ) → Grew a b (take n old.held) → new.held ≡ drop n old.held
-    → with_held b new ≡ with_held a old
-same_told None b old new n g e = ap (λ (o : Option (List ℕ)). with_held o new) g
+    → with_held_back b new ≡ with_held_back a old
+same_told None b old new n g e = ap (λ (o : Option (List ℕ)). with_held_back o new) g
 same_told (Some taken) b old new n g e =
-    ap (λ (o : Option (List ℕ)). with_held o new) g
+    ap (λ (o : Option (List ℕ)). with_held_back o new) g
     ∙ ap Some (
     append_assoc taken (take n old.held) new.held
     ∙ ap (λ (h : List ℕ). taken ++ h) (ap (λ (h : List ℕ). take n old.held ++ h) e ∙ take-append-drop n old.held)
@@ -28,7 +28,7 @@ same_told (Some taken) b old new n g e =
 
 -- the sink took n bytes more of a piece, of which some were sent before
 pub sent_more : (a b : Option (List ℕ)) (bytes piece : List ℕ) (sent n room : ℕ) → piece ≡ drop sent bytes → Grew a b (take n piece)
-    → with_held b (record { held = drop (sent + n) bytes; room = room }) ≡ with_held a (record { held = drop sent bytes; room = room })
+    → with_held_back b (record { held = drop (sent + n) bytes; room = room }) ≡ with_held_back a (record { held = drop sent bytes; room = room })
 sent_more a b bytes piece sent n room is g =
     same_told a b (record { held = drop sent bytes; room = room }) (record { held = drop (sent + n) bytes; room = room }) n
     (subst (λ (p : List ℕ). Grew a b (take n p)) is g) (sym (drop-drop n sent bytes))

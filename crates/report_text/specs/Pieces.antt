@@ -12,9 +12,9 @@ abbrev pub no_pieces : PiecesState
 no_pieces = record { held = []; room = 65536 }
 
 -- what the sink took, and then what is held back
-abbrev pub with_held : Option (List ℕ) → PiecesState → Option (List ℕ)
-with_held None pieces = None
-with_held (Some taken) pieces = Some (taken ++ pieces.held)
+abbrev pub with_held_back : Option (List ℕ) → PiecesState → Option (List ℕ)
+with_held_back None pieces = None
+with_held_back (Some taken) pieces = Some (taken ++ pieces.held)
 
 -- the sink took some text more
 pub record TookMore (old new : Option (List ℕ)) : Type 0 where

@@ -2,9 +2,9 @@
 
 ghost use Rattle.std.specs.Prelude.{◌≡◌, ◌≤◌, ◌++◌, IfOk, OnOk};
 ghost use Rattle.gc_graph.specs.Report.{line_bytes};
-ghost use Rattle.text_devices.specs.Causes.{HasCause};
+ghost use Rattle.text_devices.specs.Causes.{FailsByFault};
 ghost use Rattle.text_devices.specs.Devices.{Writes};
-ghost use Rattle.report_text.specs.Pieces.{no_pieces, with_held, TookMore};
+ghost use Rattle.report_text.specs.Pieces.{no_pieces, with_held_back, TookMore};
 
 use super::line_text::add_whole_line;
 use super::text::PieceText;
@@ -53,11 +53,11 @@ impl Pieces {
     #[inline(never)]
     #[tactic(auto, using(crate::proofs::PieceByPiece::none_taken))]
     pub fn hand_down<K: Sink>(&mut self, sink: &mut K) -> Result<(), Failed>
-        ensures told { with_held (K.written sink.new) self.new
-            ≡ with_held (K.written sink.old) self.old }
+        ensures told { with_held_back (K.written sink.new) self.new
+            ≡ with_held_back (K.written sink.old) self.old }
         ensures empty { OnOk result (self.new ≡ no_pieces) }
         ensures taken { TookMore (K.written sink.old) (K.written sink.new) }
-        ensures cause { HasCause (K.faults sink.old) (K.faults sink.new) result }
+        ensures cause { FailsByFault (K.faults sink.old) (K.faults sink.new) result }
     {
         while self.sent < self.text.as_slice().len() {
             match sink.write(&self.text.as_slice()[self.sent..]) {
@@ -74,11 +74,11 @@ impl Pieces {
     #[inline(always)]
     #[tactic(auto, using(crate::proofs::PieceByPiece::none_taken))]
     fn make_room<K: Sink>(&mut self, sink: &mut K) -> Result<(), Failed>
-        ensures told { with_held (K.written sink.new) self.new
-            ≡ with_held (K.written sink.old) self.old }
+        ensures told { with_held_back (K.written sink.new) self.new
+            ≡ with_held_back (K.written sink.old) self.old }
         ensures room { OnOk result (256 ≤ self.new.room) }
         ensures taken { TookMore (K.written sink.old) (K.written sink.new) }
-        ensures cause { HasCause (K.faults sink.old) (K.faults sink.new) result }
+        ensures cause { FailsByFault (K.faults sink.old) (K.faults sink.new) result }
     {
         if self.text.as_slice().len() <= PIECE - LONGEST {
             return Ok(());
@@ -97,10 +97,10 @@ impl Pieces {
     /// Puts a line with its end after the text that is held back for the sink.
     #[inline(always)]
     pub fn print<K: Sink>(&mut self, line: &Line, sink: &mut K) -> Result<(), Failed>
-        ensures bytes { Writes (with_held (K.written sink.old) self.old)
-            (with_held (K.written sink.new) self.new) (line_bytes line.now) result }
+        ensures bytes { Writes (with_held_back (K.written sink.old) self.old)
+            (with_held_back (K.written sink.new) self.new) (line_bytes line.now) result }
         ensures taken { TookMore (K.written sink.old) (K.written sink.new) }
-        ensures cause { HasCause (K.faults sink.old) (K.faults sink.new) result }
+        ensures cause { FailsByFault (K.faults sink.old) (K.faults sink.new) result }
     {
         match self.make_room(sink) {
             Ok(()) => {}

@@ -1,7 +1,7 @@
 // A report's lines, written one by one.
 
 ghost use Rattle.gc_graph.specs.Report.{line_bytes};
-ghost use Rattle.text_devices.specs.Causes.{HasCause};
+ghost use Rattle.text_devices.specs.Causes.{FailsByFault};
 ghost use Rattle.text_devices.specs.Devices.{Writes};
 
 use super::line_text::add_whole_line;
@@ -12,7 +12,7 @@ use text_devices::{Failed, Sink};
 /// Writes a line with its end. After a failure a beginning of it was written.
 pub fn print_line<K: Sink>(line: &Line, sink: &mut K) -> Result<(), Failed>
     ensures bytes { Writes (K.written sink.old) (K.written sink.new) (line_bytes line.now) result }
-    ensures cause { HasCause (K.faults sink.old) (K.faults sink.new) result }
+    ensures cause { FailsByFault (K.faults sink.old) (K.faults sink.new) result }
 {
     let mut text = LineText::new();
     add_whole_line(&mut text, line);
@@ -22,7 +22,7 @@ pub fn print_line<K: Sink>(line: &Line, sink: &mut K) -> Result<(), Failed>
 #[tactic(auto, using(crate::proofs::PieceByPiece::took_none, crate::proofs::PieceByPiece::took_all, crate::proofs::PieceByPiece::took_front))]
 fn write_all<K: Sink>(text: &[u8], sink: &mut K) -> Result<(), Failed>
     ensures bytes { Writes (K.written sink.old) (K.written sink.new) text.now result }
-    ensures cause { HasCause (K.faults sink.old) (K.faults sink.new) result }
+    ensures cause { FailsByFault (K.faults sink.old) (K.faults sink.new) result }
 {
     let mut rest = text;
     while !rest.is_empty() {

@@ -11,7 +11,7 @@ use Rattle.gc_graph.specs.Report.{line_bytes, lines_bytes, type_lines, outcomes_
 use Rattle.gc_graph.specs.Script.{Script}
 use Rattle.text_devices.specs.Devices.{Grew, GrewByFront, Writes}
 use Rattle.heap_engine.specs.View.{IsClosed, View}
-use Rattle.script_run.specs.Setting.{Plan, setup_of}
+use Rattle.script_run.specs.Setting.{Plan, setup_of_plan}
 use Rattle.script_run.specs.Printed.{IsPrintedRun, IsPartRun, printed_lines}
 use Rattle.script_run.specs.Headline.{IsWholeRun, IsReportCut, IsTold}
 use Rattle.script_run.proofs.Writing.{grew, grew_front, longer}
@@ -19,17 +19,17 @@ use Rattle.script_run.proofs.Printing.{printed_none}
 
 -- the heap that did all the commands of the script
 pub record HasPrinted (kinds : List ActionKind) (plan : Plan) (script : Script) (x y : Option (List ℕ)) (old mid : View) : Type 0 where
-  pub setup : old.setup ≡ setup_of kinds plan script.types
+  pub setup : old.setup ≡ setup_of_plan kinds plan script.types
   pub same : mid.setup ≡ old.setup
   pub run : IsPrintedRun old.setup script.commands x y mid
 
 -- the same in words of the script alone
 run_of : (kinds : List ActionKind) (plan : Plan) (script : Script) (x y : Option (List ℕ)) (old mid : View) → HasPrinted kinds plan script x y old mid
-    → IsPrintedRun (setup_of kinds plan script.types) script.commands x y mid
+    → IsPrintedRun (setup_of_plan kinds plan script.types) script.commands x y mid
 run_of kinds plan script x y old mid has = subst (λ s. IsPrintedRun s script.commands x y mid) has.setup has.run
 
 end_of : (kinds : List ActionKind) (plan : Plan) (script : Script) (x y : Option (List ℕ)) (old mid : View) (end : Line) → HasPrinted kinds plan script x y old mid
-    → IsEndLine mid.setup mid.state end → IsEndLine (setup_of kinds plan script.types) mid.state end
+    → IsEndLine mid.setup mid.state end → IsEndLine (setup_of_plan kinds plan script.types) mid.state end
 end_of kinds plan script x y old mid end has ended = subst (λ s. IsEndLine s mid.state end) (has.same ∙ has.setup) ended
 
 whole_run : (kinds : List ActionKind) (plan : Plan) (script : Script) (w x y z : Option (List ℕ)) (old mid heap : View) (end : Line)
@@ -48,7 +48,7 @@ whole_run kinds plan script w x y z old mid heap end types has count none ended 
       ahead = none;
       printed = record {
         end = end;
-        counted = subst (λ (s : State). IsEndLine (setup_of kinds plan script.types) s end) run.ran.last (end_of kinds plan script x y old mid end has ended);
+        counted = subst (λ (s : State). IsEndLine (setup_of_plan kinds plan script.types) s end) run.ran.last (end_of kinds plan script x y old mid end has ended);
         report = refl;
       };
       written = grew w y z _ _ (grew w x y _ _ types run.written) last;
@@ -61,8 +61,8 @@ whole_run kinds plan script w x y z old mid heap end types has count none ended 
 pub cut_in_types : (kinds : List ActionKind) (plan : Plan) (script : Script) (w x : Option (List ℕ)) (old : View) → old.state ≡ empty_state → old.history ≡ []
     → GrewByFront w x (lines_bytes (type_lines 0 script.types)) → IsReportCut kinds plan script w x
 cut_in_types kinds plan script w x old start fresh front =
-    let start_run : IsPrintedRun (setup_of kinds plan script.types) (take 0 script.commands) x x old =
-    printed_none (setup_of kinds plan script.types) script.commands x old start fresh in
+    let start_run : IsPrintedRun (setup_of_plan kinds plan script.types) (take 0 script.commands) x x old =
+    printed_none (setup_of_plan kinds plan script.types) script.commands x old start fresh in
     record {
       number = 0;
       within = omega arith;
@@ -75,7 +75,7 @@ cut_in_types kinds plan script w x old start fresh front =
     }
 
 pub cut_in_outcomes : (kinds : List ActionKind) (plan : Plan) (script : Script) (w x y : Option (List ℕ)) (old : View) → Grew w x (lines_bytes (type_lines 0 script.types))
-    → old.setup ≡ setup_of kinds plan script.types → IsPartRun old.setup script.commands x y → IsReportCut kinds plan script w y
+    → old.setup ≡ setup_of_plan kinds plan script.types → IsPartRun old.setup script.commands x y → IsReportCut kinds plan script w y
 cut_in_outcomes kinds plan script w x y old types setup part =
     let run = subst (λ s. IsPartRun s script.commands x y) setup part in
     record {
@@ -99,12 +99,12 @@ cut_in_end kinds plan script w x y z old mid end types has ended last =
       within = omega arith;
       outcomes = run.outcomes;
       history = mid.history;
-      lawful = subst (λ (ks : List Command). IsLawful (setup_of kinds plan script.types) ks run.outcomes mid.history)
+      lawful = subst (λ (ks : List Command). IsLawful (setup_of_plan kinds plan script.types) ks run.outcomes mid.history)
           (sym (take_all (length script.commands) script.commands (omega arith))) run.ran.lawful;
       ending = line_bytes end;
       ends = inr (
         refl,
-        (end, subst (λ (s : State). IsEndLine (setup_of kinds plan script.types) s end) run.ran.last (end_of kinds plan script x y old mid end has ended), refl),
+        (end, subst (λ (s : State). IsEndLine (setup_of_plan kinds plan script.types) s end) run.ran.last (end_of kinds plan script x y old mid end has ended), refl),
       );
       written = grew_front w y z _ _ (grew w x y _ _ types run.written) last;
     }

@@ -5,9 +5,9 @@ use Rattle.std.specs.Io.KnownBytes.{Appends}
 use Rattle.std.specs.Prelude.{codes}
 use Rattle.script_run.specs.declared.status.Status.{Status}
 use Rattle.script_run.specs.declared.status.Status.TheVariants as S
-use Rattle.script_run.specs.Statuses.{message_of, told_of}
+use Rattle.script_run.specs.Statuses.{message_of, error_text_of}
 
-pub told_unless_done : (status : Status) → ¬ (status ≡ S.Done) → told_of status ≡ codes "cppgc_main: " ++ message_of status ++ 10 ∷ []
+pub told_unless_done : (status : Status) → ¬ (status ≡ S.Done) → error_text_of status ≡ codes "cppgc_main: " ++ message_of status ++ 10 ∷ []
 told_unless_done S.Done not_done = absurd (not_done refl)
 told_unless_done S.TooLong not_done = refl
 told_unless_done (S.Script line reason) not_done = refl
@@ -21,5 +21,5 @@ appends_nothing None = tt
 appends_nothing (Some bytes) = sym (append-nil bytes)
 
 -- of a run that is done nothing is told
-pub told_nothing : (status : Status) → status ≡ S.Done → (held : Option (List ℕ)) → Appends held held (told_of status)
-told_nothing status done held = subst (λ (s : Status). Appends held held (told_of s)) (sym done) (appends_nothing held)
+pub told_nothing : (status : Status) → status ≡ S.Done → (held : Option (List ℕ)) → Appends held held (error_text_of status)
+told_nothing status done held = subst (λ (s : Status). Appends held held (error_text_of s)) (sym done) (appends_nothing held)

@@ -12,7 +12,7 @@ use Rattle.gc_graph.specs.Script.{Script}
 use Rattle.text_devices.specs.Devices.{GrewByFront, Writes}
 use Rattle.heap_engine.specs.Acted.{IsActed}
 use Rattle.heap_engine.specs.View.{IsClosed, View}
-use Rattle.script_run.specs.Setting.{Plan, setup_of}
+use Rattle.script_run.specs.Setting.{Plan, setup_of_plan}
 use Rattle.script_run.specs.Printed.{HasRunAll}
 use Rattle.script_run.specs.Headline.{IsWholeRun, IsTold}
 use Rattle.script_run.proofs.LawfulRuns.{outcome_of, has_run_next, has_run_none}
@@ -43,7 +43,7 @@ ran_all setup commands i heap end ran = subst (λ (ks : List Command). HasRunAll
 
 -- the heap that did all the commands of the script, and of which a summary is printed
 pub record HasSummed (kinds : List ActionKind) (plan : Plan) (script : Script) (old mid : View) : Type 0 where
-  pub setup : old.setup ≡ setup_of kinds plan script.types
+  pub setup : old.setup ≡ setup_of_plan kinds plan script.types
   pub same : mid.setup ≡ old.setup
   pub ran : HasRunAll old.setup script.commands mid
   pub count : mid.state.ordinal ≡ length script.commands
@@ -54,7 +54,7 @@ line_of : (mid : View) (outcomes : List Outcome) → mid.state ≡ last_state em
 line_of mid outcomes is = ap (λ (s : State). line_bytes (summary_line s)) is
 
 ran_of : (kinds : List ActionKind) (plan : Plan) (script : Script) (old mid : View) → HasSummed kinds plan script old mid
-    → HasRunAll (setup_of kinds plan script.types) script.commands mid
+    → HasRunAll (setup_of_plan kinds plan script.types) script.commands mid
 ran_of kinds plan script old mid has = subst (λ (s : Setup). HasRunAll s script.commands mid) has.setup has.ran
 
 pub told_in_summary : {T E : Type 0} (kinds : List ActionKind) (plan : Plan) (script : Script) (y z : Option (List ℕ)) (old mid heap : View) (result : Result T E)

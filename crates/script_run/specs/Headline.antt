@@ -19,7 +19,7 @@ use Rattle.command_line.specs.declared.options.OptionsFault.{OptionsFault}
 use Rattle.command_line.specs.declared.options.OptionsFault.TheVariants as O
 use Rattle.command_line.specs.Options.{options_asked}
 use Rattle.script_generator.specs.Generated.{generated}
-use Rattle.script_run.specs.Setting.{Plan, plan_asked, setup_of}
+use Rattle.script_run.specs.Setting.{Plan, plan_asked, setup_of_plan}
 use Rattle.script_run.specs.Printed.{IsEnding, printed_lines}
 
 -- ---- what is printed of a run
@@ -43,13 +43,13 @@ pub record IsWholeRun (summary : Bool) (kinds : List ActionKind) (plan : Plan) (
   pub outcomes : List Outcome
   pub history : List Entry
   pub text : List ℕ
-  pub lawful : IsLawful (setup_of kinds plan script.types) script.commands outcomes history
+  pub lawful : IsLawful (setup_of_plan kinds plan script.types) script.commands outcomes history
   pub state : heap.state ≡ last_state empty_state outcomes
   pub taken : heap.history ≡ history
   pub ahead : heap.ahead ≡ []
-  pub printed : IsPrinted summary (setup_of kinds plan script.types) script outcomes text
+  pub printed : IsPrinted summary (setup_of_plan kinds plan script.types) script outcomes text
   pub written : Grew before after text
-  pub setup : heap.setup ≡ setup_of kinds plan script.types
+  pub setup : heap.setup ≡ setup_of_plan kinds plan script.types
   pub closed : heap.closed ≡ true
   pub joined : heap.lent ≡ 0
   pub count : heap.state.ordinal ≡ length script.commands
@@ -60,9 +60,9 @@ pub record IsReportCut (kinds : List ActionKind) (plan : Plan) (script : Script)
   pub within : number ≤ length script.commands
   pub outcomes : List Outcome
   pub history : List Entry
-  pub lawful : IsLawful (setup_of kinds plan script.types) (take number script.commands) outcomes history
+  pub lawful : IsLawful (setup_of_plan kinds plan script.types) (take number script.commands) outcomes history
   pub ending : List ℕ
-  pub ends : IsEnding (setup_of kinds plan script.types) script.commands number (last_state empty_state outcomes) ending
+  pub ends : IsEnding (setup_of_plan kinds plan script.types) script.commands number (last_state empty_state outcomes) ending
   pub written :
       GrewByFront before after (lines_bytes (type_lines 0 script.types) ++ outcomes_bytes (printed_lines outcomes) ++ ending)
 
@@ -70,7 +70,7 @@ pub record IsReportCut (kinds : List ActionKind) (plan : Plan) (script : Script)
 pub record IsSummaryCut (kinds : List ActionKind) (plan : Plan) (script : Script) (before after : Option (List ℕ)) : Type 0 where
   pub outcomes : List Outcome
   pub history : List Entry
-  pub lawful : IsLawful (setup_of kinds plan script.types) script.commands outcomes history
+  pub lawful : IsLawful (setup_of_plan kinds plan script.types) script.commands outcomes history
   pub written : GrewByFront before after (line_bytes (summary_line (last_state empty_state outcomes)))
 
 -- a beginning of what is printed of a lawful run was written

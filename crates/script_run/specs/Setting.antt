@@ -22,8 +22,8 @@ abbrev pub plan_of : Setup → Plan
 plan_of setup = record { shape = setup.shape; markers = setup.markers }
 
 -- a heap of the plan, with callbacks of these kinds and the types of a script
-abbrev pub setup_of : List ActionKind → Plan → List ObjectType → Setup
-setup_of kinds plan types = record { shape = plan.shape; markers = plan.markers; types = types; callbacks = kinds }
+abbrev pub setup_of_plan : List ActionKind → Plan → List ObjectType → Setup
+setup_of_plan kinds plan types = record { shape = plan.shape; markers = plan.markers; types = types; callbacks = kinds }
 
 -- the script whose types a heap has, with these commands
 abbrev pub script_on : Setup → List Command → Script

@@ -24,6 +24,6 @@ message_of S.NoMemory = codes "no memory"
 message_of S.Usage = codes "usage"
 
 -- what standard error is told: why the run is not done, in a line of its own
-abbrev pub told_of : Status → List ℕ
-told_of S.Done = []
-told_of status = codes "cppgc_main: " ++ message_of status ++ 10 ∷ []
+abbrev pub error_text_of : Status → List ℕ
+error_text_of S.Done = []
+error_text_of status = codes "cppgc_main: " ++ message_of status ++ 10 ∷ []

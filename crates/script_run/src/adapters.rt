@@ -1,7 +1,7 @@
 // Devices over the standard streams. They tell no bytes.
 
 ghost use Rattle.std.specs.Prelude.{◌≡◌, ◌<◌, ◌≤◌, None, length, IfOk};
-ghost use Rattle.text_devices.specs.Causes.{HasCause};
+ghost use Rattle.text_devices.specs.Causes.{FailsByFault};
 ghost use Rattle.text_devices.specs.Devices.{Takes, Appends};
 ghost use Rattle.script_run.specs.Counting.{CountsFaults};
 
@@ -32,7 +32,7 @@ impl<R: Read> Source for StdinSource<R> {
         requires { 0 < length buffer.old }
         ensures bound { IfOk result (λ n. n ≤ length buffer.new) }
         ensures bytes { IfOk result (λ n. Takes None None buffer.new n) }
-        ensures cause { HasCause self.old.faults self.new.faults result }
+        ensures cause { FailsByFault self.old.faults self.new.faults result }
         ensures count { CountsFaults self.old.faults self.new.faults result }
     {
         match self.inner.read(buffer) {
@@ -68,7 +68,7 @@ impl<W: Write> Sink for StdoutSink<W> {
     fn write(&mut self, piece: &[u8]) -> Result<usize, Failed>
         requires { 0 < length piece.now }
         ensures bytes { Appends None None piece.now result }
-        ensures cause { HasCause self.old.faults self.new.faults result }
+        ensures cause { FailsByFault self.old.faults self.new.faults result }
         ensures count { CountsFaults self.old.faults self.new.faults result }
     {
         match self.inner.write(piece) {

@@ -7,9 +7,9 @@ ghost use Rattle.gc_graph.specs.Sections.{AreInSections, IsInSection};
 ghost use Rattle.gc_graph.specs.Outcomes.{finalise_lines};
 ghost use Rattle.gc_graph.specs.Lawful.{IsAllowed};
 ghost use Rattle.gc_graph.specs.Report.{lines_bytes};
-ghost use Rattle.text_devices.specs.Causes.{HasCause};
+ghost use Rattle.text_devices.specs.Causes.{FailsByFault};
 ghost use Rattle.text_devices.specs.Devices.{Writes};
-ghost use Rattle.report_text.specs.Pieces.{with_held, TookMore};
+ghost use Rattle.report_text.specs.Pieces.{with_held_back, TookMore};
 ghost use Rattle.heap_engine.specs.Acted.{IsActed};
 ghost use Rattle.script_run.specs.Printed.{IsPrintedRun, IsPartRun};
 
@@ -34,16 +34,16 @@ pub(crate) fn print_all<R: Threads, K: Sink, G: Gate + Send + Sync + 'static>(
     requires few { length commands.now ≤ 1000000 }
     requires sections { AreInSections false commands.now }
     ensures done { OnOk result (IsPrintedRun heap.old.core.setup commands.now
-        (with_held (K.written sink.old) pieces.old)
-        (with_held (K.written sink.new) pieces.new) heap.new.core) }
+        (with_held_back (K.written sink.old) pieces.old)
+        (with_held_back (K.written sink.new) pieces.new) heap.new.core) }
     ensures part { OnErr result (IsPartRun heap.old.core.setup commands.now
-        (with_held (K.written sink.old) pieces.old)
-        (with_held (K.written sink.new) pieces.new)) }
+        (with_held_back (K.written sink.old) pieces.old)
+        (with_held_back (K.written sink.new) pieces.new)) }
     ensures taken { TookMore (K.written sink.old) (K.written sink.new) }
     ensures setup { heap.new.core.setup ≡ heap.old.core.setup }
     ensures count { OnOk result (heap.new.core.state.ordinal ≡ length commands.now) }
     ensures joined { OnOk result (heap.new.core.ahead ≡ []) }
-    ensures cause { HasCause (K.faults sink.old) (K.faults sink.new) result }
+    ensures cause { FailsByFault (K.faults sink.old) (K.faults sink.new) result }
 {
     gc_graph::runs_are_replayed();
     gc_graph::steps_leave_threads();
@@ -69,10 +69,10 @@ fn print_outcome<R: Threads, K: Sink, G: Gate + Send + Sync + 'static>(
     requires allowed { IsAllowed (length heap.old.core.setup.types) command.now }
     requires section { IsInSection heap.old.core.state.awaiting command.now }
     ensures acted { IsActed heap.old.core heap.new.core command.now (length heap.new.core.lines) }
-    ensures bytes { Writes (with_held (K.written sink.old) pieces.old)
-        (with_held (K.written sink.new) pieces.new) (lines_bytes heap.new.core.lines) result }
+    ensures bytes { Writes (with_held_back (K.written sink.old) pieces.old)
+        (with_held_back (K.written sink.new) pieces.new) (lines_bytes heap.new.core.lines) result }
     ensures taken { TookMore (K.written sink.old) (K.written sink.new) }
-    ensures cause { HasCause (K.faults sink.old) (K.faults sink.new) result }
+    ensures cause { FailsByFault (K.faults sink.old) (K.faults sink.new) result }
 {
     let count = heap.act(rt, command);
     if let Some(line) = heap.only_line() {
@@ -90,11 +90,11 @@ fn print_lines<K: Sink, G: Gate + Send + Sync + 'static>(
     sink: &mut K,
 ) -> Result<(), Failed>
     requires { count ≡ length heap.old.core.lines }
-    ensures bytes { Writes (with_held (K.written sink.old) pieces.old)
-        (with_held (K.written sink.new) pieces.new) (lines_bytes heap.old.core.lines) result }
+    ensures bytes { Writes (with_held_back (K.written sink.old) pieces.old)
+        (with_held_back (K.written sink.new) pieces.new) (lines_bytes heap.old.core.lines) result }
     ensures taken { TookMore (K.written sink.old) (K.written sink.new) }
     ensures same { heap.new.core ≡ heap.old.core }
-    ensures cause { HasCause (K.faults sink.old) (K.faults sink.new) result }
+    ensures cause { FailsByFault (K.faults sink.old) (K.faults sink.new) result }
 {
     let numbers = heap.finalised();
     let first = numbers.len() as u32;
@@ -118,11 +118,11 @@ fn print_finalised<K: Sink>(
     pieces: &mut Pieces,
     sink: &mut K,
 ) -> Result<(), Failed>
-    ensures bytes { Writes (with_held (K.written sink.old) pieces.old)
-        (with_held (K.written sink.new) pieces.new)
+    ensures bytes { Writes (with_held_back (K.written sink.old) pieces.old)
+        (with_held_back (K.written sink.new) pieces.new)
         (lines_bytes (finalise_lines numbers.now)) result }
     ensures taken { TookMore (K.written sink.old) (K.written sink.new) }
-    ensures cause { HasCause (K.faults sink.old) (K.faults sink.new) result }
+    ensures cause { FailsByFault (K.faults sink.old) (K.faults sink.new) result }
 {
     for number in numbers {
         match pieces.print(&Line::Finalise { k: *number }, sink) {

@@ -6,9 +6,9 @@ ghost use Rattle.gc_graph.specs.State.{empty_state};
 ghost use Rattle.gc_graph.specs.Sections.{AreInSections};
 ghost use Rattle.gc_graph.specs.Lawful.{IsAllowed};
 ghost use Rattle.gc_graph.specs.Report.{line_bytes, lines_bytes};
-ghost use Rattle.text_devices.specs.Causes.{HasCause};
+ghost use Rattle.text_devices.specs.Causes.{FailsByFault};
 ghost use Rattle.text_devices.specs.Devices.{Writes};
-ghost use Rattle.report_text.specs.Pieces.{no_pieces, with_held, TookMore};
+ghost use Rattle.report_text.specs.Pieces.{no_pieces, with_held_back, TookMore};
 ghost use Rattle.script_run.specs.Setting.{IsRunnable, plan_of, script_on};
 ghost use Rattle.script_run.specs.Printed.{HasRunAll, counted_lines};
 ghost use Rattle.script_run.specs.Headline.{IsTold};
@@ -43,7 +43,7 @@ pub(crate) fn print_run<R: Threads, K: Sink, G: Gate + Send + Sync + 'static>(
         (K.written sink.old) (K.written sink.new) heap.new.core result }
     ensures closed { heap.new.core.closed ≡ true }
     ensures joined { heap.new.core.lent ≡ 0 }
-    ensures cause { HasCause (K.faults sink.old) (K.faults sink.new) result }
+    ensures cause { FailsByFault (K.faults sink.old) (K.faults sink.new) result }
 {
     match print_wanted(rt, heap, summary, types, commands, pieces, sink) {
         Ok(()) => Ok(()),
@@ -75,7 +75,7 @@ fn print_wanted<R: Threads, K: Sink, G: Gate + Send + Sync + 'static>(
     ensures told { IsTold summary heap.old.core.setup.callbacks (plan_of heap.old.core.setup)
         (script_on heap.old.core.setup commands.now)
         (K.written sink.old) (K.written sink.new) heap.new.core result }
-    ensures cause { HasCause (K.faults sink.old) (K.faults sink.new) result }
+    ensures cause { FailsByFault (K.faults sink.old) (K.faults sink.new) result }
 {
     if summary {
         return print_summary(rt, heap, commands, pieces, sink);
@@ -103,7 +103,7 @@ fn print_report<R: Threads, K: Sink, G: Gate + Send + Sync + 'static>(
     ensures told { IsTold false heap.old.core.setup.callbacks (plan_of heap.old.core.setup)
         (script_on heap.old.core.setup commands.now)
         (K.written sink.old) (K.written sink.new) heap.new.core result }
-    ensures cause { HasCause (K.faults sink.old) (K.faults sink.new) result }
+    ensures cause { FailsByFault (K.faults sink.old) (K.faults sink.new) result }
 {
     match print_types(types, pieces, sink) {
         Ok(()) => {}
@@ -135,7 +135,7 @@ fn print_summary<R: Threads, K: Sink, G: Gate + Send + Sync + 'static>(
     ensures told { IsTold true heap.old.core.setup.callbacks (plan_of heap.old.core.setup)
         (script_on heap.old.core.setup commands.now)
         (K.written sink.old) (K.written sink.new) heap.new.core result }
-    ensures cause { HasCause (K.faults sink.old) (K.faults sink.new) result }
+    ensures cause { FailsByFault (K.faults sink.old) (K.faults sink.new) result }
 {
     do_all(rt, heap, commands);
     let line = heap.summary();
@@ -170,11 +170,11 @@ fn do_all<R: Threads, G: Gate + Send + Sync + 'static>(
 
 /// Prints the last line, and hands down all that is held.
 fn print_end<K: Sink>(line: &Line, pieces: &mut Pieces, sink: &mut K) -> Result<(), Failed>
-    ensures bytes { Writes (with_held (K.written sink.old) pieces.old)
-        (with_held (K.written sink.new) pieces.new) (line_bytes line.now) result }
+    ensures bytes { Writes (with_held_back (K.written sink.old) pieces.old)
+        (with_held_back (K.written sink.new) pieces.new) (line_bytes line.now) result }
     ensures empty { OnOk result (pieces.new ≡ no_pieces) }
     ensures taken { TookMore (K.written sink.old) (K.written sink.new) }
-    ensures cause { HasCause (K.faults sink.old) (K.faults sink.new) result }
+    ensures cause { FailsByFault (K.faults sink.old) (K.faults sink.new) result }
 {
     match pieces.print(line, sink) {
         Ok(()) => pieces.hand_down(sink),
@@ -184,10 +184,10 @@ fn print_end<K: Sink>(line: &Line, pieces: &mut Pieces, sink: &mut K) -> Result<
 
 /// Prints a line for each of so many types.
 fn print_types<K: Sink>(count: u32, pieces: &mut Pieces, sink: &mut K) -> Result<(), Failed>
-    ensures bytes { Writes (with_held (K.written sink.old) pieces.old)
-        (with_held (K.written sink.new) pieces.new) (lines_bytes (counted_lines count)) result }
+    ensures bytes { Writes (with_held_back (K.written sink.old) pieces.old)
+        (with_held_back (K.written sink.new) pieces.new) (lines_bytes (counted_lines count)) result }
     ensures taken { TookMore (K.written sink.old) (K.written sink.new) }
-    ensures cause { HasCause (K.faults sink.old) (K.faults sink.new) result }
+    ensures cause { FailsByFault (K.faults sink.old) (K.faults sink.new) result }
 {
     for t in 0..count {
         match pieces.print(&Line::TypeLine { t }, sink) {

@@ -2,7 +2,7 @@
 
 ghost use Rattle.std.specs.Prelude.{◌≡◌, Some, OnOk};
 ghost use Rattle.std.specs.Io.KnownBytes.{Appends, Keeps};
-ghost use Rattle.script_run.specs.Statuses.{exit_status_of, message_of, told_of};
+ghost use Rattle.script_run.specs.Statuses.{exit_status_of, message_of, error_text_of};
 
 use std::io::Write;
 use std::{fmt, io};
@@ -62,7 +62,7 @@ pub fn end<W: Write>(status: Status, errors: &mut W) -> Ending
     ensures exit_status { result.exit_status ≡ exit_status_of status }
     ensures done { status ≡ Status.Done → Keeps (W.contents errors.old) (W.contents errors.new) }
     ensures told { OnOk result.told
-        (Appends (W.contents errors.old) (W.contents errors.new) (told_of status)) }
+        (Appends (W.contents errors.old) (W.contents errors.new) (error_text_of status)) }
 {
     let told = match status {
         Status::Done => Ok(()),

@@ -10,7 +10,7 @@ abbrev pub Rose : ℕ → ℕ → Type 0
 Rose before now = risen before ≤ now
 
 -- a failure comes only where the count of faults has risen, and after a success it stands where it stood
-pub record HasCause {T E : Type 0} (before now : ℕ) (result : Result T E) : Type 0 where
+pub record FailsByFault {T E : Type 0} (before now : ℕ) (result : Result T E) : Type 0 where
   pub later : before ≤ now
   pub failed : OnErr result (Rose before now)
   pub steady : OnOk result (now ≡ before)

@@ -1,7 +1,7 @@
 // What bytes come from and go to.
 
 ghost use Rattle.std.specs.Prelude.{ℕ, ◌<◌, ◌≤◌, List, length, Option, IfOk};
-ghost use Rattle.text_devices.specs.Causes.{HasCause};
+ghost use Rattle.text_devices.specs.Causes.{FailsByFault};
 ghost use Rattle.text_devices.specs.Devices.{Takes, Appends};
 
 use thiserror::Error;
@@ -27,7 +27,7 @@ pub trait Source {
         requires { 0 < length buffer.old }
         ensures bound { IfOk result (λ n. n ≤ length buffer.new) }
         ensures bytes { IfOk result (λ n. Takes (left self.old) (left self.new) buffer.new n) }
-        ensures cause { HasCause (faults self.old) (faults self.new) result };
+        ensures cause { FailsByFault (faults self.old) (faults self.new) result };
 }
 
 /// Bytes that go out in pieces.
@@ -42,5 +42,5 @@ pub trait Sink {
     fn write(&mut self, piece: &[u8]) -> Result<usize, Failed>
         requires { 0 < length piece.now }
         ensures bytes { Appends (written self.old) (written self.new) piece.now result }
-        ensures cause { HasCause (faults self.old) (faults self.new) result };
+        ensures cause { FailsByFault (faults self.old) (faults self.new) result };
 }

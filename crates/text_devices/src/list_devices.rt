@@ -2,7 +2,7 @@
 
 ghost use Rattle.std.specs.Prelude.{◌≡◌, ◌+◌, ◌==◌, ◌<◌, ◌≤◌, [], length, max};
 ghost use Rattle.std.specs.Prelude.{Some, IfOk, OnOk, OnErr};
-ghost use Rattle.text_devices.specs.Causes.{HasCause};
+ghost use Rattle.text_devices.specs.Causes.{FailsByFault};
 ghost use Rattle.text_devices.specs.Devices.{Takes, Appends};
 ghost use Rattle.std.specs.List.{list_any};
 ghost use Rattle.text_devices.specs.ListDevices.{ReadsList, WritesList};
@@ -74,7 +74,7 @@ impl Source for ListSource {
         ensures bound { IfOk result (λ n. n ≤ length buffer.new) }
         ensures bytes { IfOk result (λ n.
             Takes (Some self.old.left) (Some self.new.left) buffer.new n) }
-        ensures cause { HasCause self.old.faults self.new.faults result }
+        ensures cause { FailsByFault self.old.faults self.new.faults result }
         ensures answer { ReadsList self.old self.new buffer.old result }
     {
         self.calls = self.calls.saturating_add(1);
@@ -172,7 +172,7 @@ impl Sink for ListSink {
     fn write(&mut self, piece: &[u8]) -> Result<usize, Failed>
         requires { 0 < length piece.now }
         ensures bytes { Appends (Some self.old.written) (Some self.new.written) piece.now result }
-        ensures cause { HasCause self.old.faults self.new.faults result }
+        ensures cause { FailsByFault self.old.faults self.new.faults result }
         ensures answer { WritesList self.old self.new piece.now result }
     {
         let count = piece.len().min(self.most);

@@ -1,7 +1,7 @@
 // Devices in memory that never fail.
 
 ghost use Rattle.std.specs.Prelude.{◌≡◌, ◌<◌, ◌≤◌, length, min, Some, None, Ok, IfOk};
-ghost use Rattle.text_devices.specs.Causes.{HasCause};
+ghost use Rattle.text_devices.specs.Causes.{FailsByFault};
 ghost use Rattle.text_devices.specs.Devices.{Takes, Appends};
 
 use super::devices::{Failed, Sink, Source};
@@ -43,7 +43,7 @@ impl Source for SteadySource {
         requires { 0 < length buffer.old }
         ensures bound { IfOk result (λ n. n ≤ length buffer.new) }
         ensures bytes { IfOk result (λ n. Takes (Some self.old) (Some self.new) buffer.new n) }
-        ensures cause { HasCause 0 0 result }
+        ensures cause { FailsByFault 0 0 result }
         ensures answer { result ≡ Ok (min (length buffer.old) (length self.old)) }
     {
         let rest = &self.bytes[self.at..];
@@ -73,7 +73,7 @@ impl Sink for SteadySink {
     fn write(&mut self, piece: &[u8]) -> Result<usize, Failed>
         requires { 0 < length piece.now }
         ensures bytes { Appends None None piece.now result }
-        ensures cause { HasCause 0 0 result }
+        ensures cause { FailsByFault 0 0 result }
         ensures answer { result ≡ Ok (length piece.now) }
     {
         Ok(piece.len())

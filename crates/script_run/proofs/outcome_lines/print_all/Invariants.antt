@@ -1,6 +1,6 @@
 use Rattle.std.proofs.Common.{◌≡◌, false, [], take, drop}
 use Rattle.gc_graph.specs.Sections.{AreInSections}
-use Rattle.report_text.specs.Pieces.{with_held, TookMore}
+use Rattle.report_text.specs.Pieces.{with_held_back, TookMore}
 use Rattle.script_run.specs.Printed.{IsPrintedRun}
 use Rattle.script_run.proofs.outcome_lines.print_all.Given as goal
 
@@ -14,5 +14,5 @@ invariant-loop-command g l = record {
   steady : g.K.Sink.faults l.sink ≡ g.K.Sink.faults l.initial.sink;
   taken : TookMore (g.K.Sink.written l.initial.sink) (g.K.Sink.written l.sink);
   printed : IsPrintedRun l.initial.heap.core.setup (take l.command-index l.commands)
-      (with_held (g.K.Sink.written l.initial.sink) l.initial.pieces) (with_held (g.K.Sink.written l.sink) l.pieces) l.heap.core;
+      (with_held_back (g.K.Sink.written l.initial.sink) l.initial.pieces) (with_held_back (g.K.Sink.written l.sink) l.pieces) l.heap.core;
 }

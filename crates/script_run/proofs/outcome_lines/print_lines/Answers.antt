@@ -3,7 +3,7 @@ use Rattle.std.specs.List.{slice_get}
 use Rattle.gc_graph.specs.Outcomes.{finalise_lines}
 use Rattle.gc_graph.specs.Report.{lines_bytes}
 use Rattle.text_devices.specs.Devices.{Grew}
-use Rattle.report_text.specs.Pieces.{with_held}
+use Rattle.report_text.specs.Pieces.{with_held_back}
 use Rattle.script_run.proofs.Writing.{line_more, line_fails, front_fails}
 use Rattle.script_run.proofs.HeldBack.{taken_on}
 use Rattle.script_run.proofs.outcome_lines.print_lines.Goals as goal
@@ -18,8 +18,8 @@ loop-index-init g c = record {
   same = refl;
   steady = search rules;
   taken = c.print_finalised.ensures.taken;
-  printed = subst (λ lines. Grew (with_held (g.K.Sink.written c.args.sink.now) c.args.pieces.now)
-      (with_held (g.K.Sink.written c.print_finalised.new.sink) c.print_finalised.new.pieces) (lines_bytes lines))
+  printed = subst (λ lines. Grew (with_held_back (g.K.Sink.written c.args.sink.now) c.args.pieces.now)
+      (with_held_back (g.K.Sink.written c.print_finalised.new.sink) c.print_finalised.new.pieces) (lines_bytes lines))
       (sym c.finalised-numbers.ensures.lines) c.in-Ok.ensures.bytes;
 }
 
@@ -40,7 +40,7 @@ loop-index-preserved g c =
       same = search rules;
       steady = search rules;
       taken = taken_on _ _ _ c.loop-index.invariant.taken c.print.ensures.taken;
-      printed = line_more (with_held (g.K.Sink.written c.args.sink.now) c.args.pieces.now) (with_held (g.K.Sink.written c.loop-index.sink) c.loop-index.pieces)
-          (with_held (g.K.Sink.written c.print.new.sink) c.print.new.self) c.args.heap.now.core.lines c.loop-index.index _ c.line-line.result at refl
+      printed = line_more (with_held_back (g.K.Sink.written c.args.sink.now) c.args.pieces.now) (with_held_back (g.K.Sink.written c.loop-index.sink) c.loop-index.pieces)
+          (with_held_back (g.K.Sink.written c.print.new.sink) c.print.new.self) c.args.heap.now.core.lines c.loop-index.index _ c.line-line.result at refl
           c.loop-index.invariant.printed c.in-Ok-print.ensures.bytes;
     }

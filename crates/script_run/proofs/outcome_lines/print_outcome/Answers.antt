@@ -1,11 +1,11 @@
 use Rattle.std.proofs.Common.{sym, ap, ◌∙◌, subst}
 use Rattle.gc_graph.specs.Report.{lines_bytes}
 use Rattle.text_devices.specs.Devices.{Writes}
-use Rattle.report_text.specs.Pieces.{with_held}
+use Rattle.report_text.specs.Pieces.{with_held_back}
 use Rattle.script_run.proofs.Writing.{one_line}
 use Rattle.script_run.proofs.outcome_lines.print_outcome.Goals as goal
 
 pub returns-in-Some-clause-bytes : goal.returns-in-Some-clause-bytes
 returns-in-Some-clause-bytes g c =
-    subst (λ text. Writes (with_held (g.K.Sink.written c.args.sink.now) c.args.pieces.now) (with_held (g.K.Sink.written c.print.new.sink) c.print.new.self) text c.print.result)
+    subst (λ text. Writes (with_held_back (g.K.Sink.written c.args.sink.now) c.args.pieces.now) (with_held_back (g.K.Sink.written c.print.new.sink) c.print.new.self) text c.print.result)
     (sym (ap lines_bytes c.in-Some.ensures.line ∙ one_line c.in-Some.line.now)) c.print.ensures.bytes

@@ -1,5 +1,5 @@
 use Rattle.std.proofs.Common.{◌≡◌, false, length, rules, refl}
-use Rattle.report_text.specs.Pieces.{with_held, TookMore}
+use Rattle.report_text.specs.Pieces.{with_held_back, TookMore}
 use Rattle.script_run.specs.Setting.{plan_of, script_on}
 use Rattle.script_run.proofs.Writing.{counted_are_types}
 use Rattle.script_run.proofs.HeldBack.{taken_on, cut_out, told_at_last}
@@ -19,8 +19,8 @@ returns-in-Err-print_all-clause-told g c =
 
 pub returns-clause-told : goal.returns-clause-told
 returns-clause-told g c =
-    let run : HasPrinted c.args.heap.now.core.setup.callbacks (plan_of c.args.heap.now.core.setup) (script_on c.args.heap.now.core.setup c.args.commands.now) (with_held (g.K.Sink.written c.print_types.new.sink) c.print_types.new.pieces)
-    (with_held (g.K.Sink.written c.print_all.new.sink) c.print_all.new.pieces) c.args.heap.now.core c.print_all.new.heap.core =
+    let run : HasPrinted c.args.heap.now.core.setup.callbacks (plan_of c.args.heap.now.core.setup) (script_on c.args.heap.now.core.setup c.args.commands.now) (with_held_back (g.K.Sink.written c.print_types.new.sink) c.print_types.new.pieces)
+    (with_held_back (g.K.Sink.written c.print_all.new.sink) c.print_all.new.pieces) c.args.heap.now.core c.print_all.new.heap.core =
     record {
       setup = refl;
       same = c.print_all.ensures.setup;

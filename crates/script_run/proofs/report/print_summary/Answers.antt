@@ -1,7 +1,7 @@
 use Rattle.std.proofs.Common.{true, subst, refl}
 use Rattle.gc_graph.specs.declared.line.Line.{Line}
 use Rattle.gc_graph.specs.Report.{line_bytes}
-use Rattle.report_text.specs.Pieces.{with_held}
+use Rattle.report_text.specs.Pieces.{with_held_back}
 use Rattle.text_devices.specs.Devices.{Writes}
 use Rattle.script_run.specs.Setting.{plan_of, script_on}
 use Rattle.script_run.proofs.HeldBack.{told_at_last}
@@ -15,5 +15,5 @@ returns-clause-told g c =
     c.args.heap.now.core c.do_all.new.heap.core _ c.print_end.result
     (record { setup = refl; same = c.do_all.ensures.setup; ran = c.do_all.ensures.done; count = c.do_all.ensures.count; ahead = c.do_all.ensures.joined })
     c.close-end.ensures.closed
-    (subst (λ (line : Line). Writes (with_held (g.K.Sink.written c.args.sink.now) c.args.pieces.now) (with_held (g.K.Sink.written c.print_end.new.sink) c.print_end.new.pieces) (line_bytes line) c.print_end.result)
+    (subst (λ (line : Line). Writes (with_held_back (g.K.Sink.written c.args.sink.now) c.args.pieces.now) (with_held_back (g.K.Sink.written c.print_end.new.sink) c.print_end.new.pieces) (line_bytes line) c.print_end.result)
     c.summary-line.ensures c.print_end.ensures.bytes))
