@@ -1,5 +1,5 @@
 -- A heap is closed: its markers are joined, and nothing changes for the graph.
-use Rattle.std.proofs.Common.{◌≡◌, ℕ, List, sym, ap, ◌∙◌, subst}
+use Rattle.std.proofs.Common.{◌≡◌, List, sym, ap, ◌∙◌, subst}
 use Rattle.gc_graph.specs.CycleSteps.{is_marking}
 use Rattle.gc_graph.specs.State.{Node, State}
 use Rattle.heap_cycle.specs.Nodes.{place_of}

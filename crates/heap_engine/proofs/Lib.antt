@@ -16,5 +16,5 @@ pub mod HeapEmpty
 pub mod ThreadsKept
 pub mod ThreadsTold
 pub mod Joined
-pub mod CommandKinds
 pub mod Closing
+pub mod CommandsDone

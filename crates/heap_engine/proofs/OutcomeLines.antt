@@ -1,5 +1,5 @@
 -- The lines of an outcome: those of a command that finalises nothing and runs no prefinalizer, and those that tell a finalised node.
-use Rattle.std.proofs.Common.{◌≡◌, ℕ, Bool, true, false, List, [], ◌∷◌, ◌++◌, Option, Some, None, IfSome, IfNone, refl, sym, ap, ◌∙◌}
+use Rattle.std.proofs.Common.{◌≡◌, ℕ, Bool, true, false, List, [], ◌∷◌, ◌++◌, Option, Some, None, IfSome, refl, sym, ap, ◌∙◌}
 use Rattle.std.specs.Option.{option_to_list}
 use Rattle.std.proofs.lemmas.List.{append-nil}
 use Rattle.gc_graph.specs.declared.line.Line.{Line}
@@ -8,7 +8,7 @@ use Rattle.gc_graph.specs.declared.phase.Phase.{Phase}
 use Rattle.gc_graph.specs.Outcomes.{finalise_lines}
 use Rattle.heap_cycle.specs.Refused.{RefusalsTold}
 use Rattle.heap_cycle.specs.Walks.{GoesOnTelling, IsWalkTold, IsWalkToldIn}
-use Rattle.heap_cycle.specs.Printed.{Printed, ran_lines, lines_with, later_lines, outcome_lines, finalised_in, TellsNode, TellsThoseThatRan}
+use Rattle.heap_cycle.specs.Printed.{Printed, ran_lines, lines_with, later_lines, outcome_lines, finalised_in, TellsNode}
 use Rattle.heap_engine.specs.Ended.{last_line, IsEnded}
 
 -- it tells its line alone
@@ -16,10 +16,7 @@ pub line_alone : (o : Printed) (ran : List (ℕ × ℕ)) (line : Line) → o.num
 line_alone o ran line numbers calm =
     ap (λ ns. finalise_lines ns ++ line ∷ ran_lines o.prefinalises ran) numbers ∙ ap (λ b. line ∷ ran_lines b ran) calm
 
--- its line has ended it
-pub ended_by : (o new : Printed) (line : Line) → new ≡ record o { last = Some line } → new ≡ record o { last = Some (last_line new) }
-ended_by o new line is = is ∙ ap (λ (l : Line). record o { last = Some l }) (sym (ap last_line is))
-
+-- so does one that has ended
 pub ended_alone : (o new : Printed) (ran : List (ℕ × ℕ)) (line : Line) → new ≡ record o { last = Some line } → o.numbers ≡ [] → o.prefinalises ≡ false
     → outcome_lines new ran ≡ line ∷ []
 ended_alone o new ran line is numbers calm = ap (λ (x : Printed). outcome_lines x ran) is ∙ line_alone o ran line numbers calm

@@ -1,9 +1,10 @@
 -- The region beside a command: its history goes on from what it was, and where the command makes no entry it is still the heap's.
-use Rattle.std.proofs.Common.{◌≡◌, ◌<◌, List, [], ◌++◌, length, drop, sym, ap, ◌∙◌, subst}
+use Rattle.std.proofs.Common.{◌≡◌, ◌<◌, Bool, true, false, List, [], ◌++◌, length, drop, sym, ap, ◌∙◌, subst}
 use Rattle.std.proofs.Math.Seq.{drop-length}
 use Rattle.std.proofs.lemmas.List.{map-append, take-append-drop}
 use Rattle.std.proofs.lemmas.List.Elements.{All-contains}
 use Rattle.gc_graph.specs.declared.command.Command.{Command}
+use Rattle.gc_graph.specs.declared.command.Command.TheVariants as C
 use Rattle.gc_graph.specs.declared.line.Line.{Line}
 use Rattle.gc_graph.specs.HistoryLaw.{StepsFollow, Follows}
 use Rattle.gc_graph.specs.Lawful.{IsAllowed}
@@ -21,6 +22,21 @@ use Rattle.heap_cycle.specs.Nodes.{place_of}
 use Rattle.heap_cycle.specs.declared.parts.Parts.{Parts}
 use Rattle.heap_cycle.specs.Parts.{setup_of, state_of, IsReady}
 use Rattle.heap_cycle.specs.Region.{HasRegion, made}
+
+-- ---- which commands
+
+-- whether a command leaves the region, its history and the threads as they are: the owner's calls, starts, pauses and what is said
+-- to threads don't
+abbrev pub leaves_region : Command → Bool
+leaves_region (C.Export p x) = false
+leaves_region (C.Import x p) = false
+leaves_region C.GcStart = false
+leaves_region (C.GcFinish want) = false
+leaves_region (C.GcNow want) = false
+leaves_region (C.At j order) = false
+leaves_region C.ThreadsGo = false
+leaves_region C.ThreadsJoin = false
+leaves_region _ = true
 
 -- ---- the history
 

@@ -1,5 +1,5 @@
 -- The lines of a command that the heap does: those of finalised nodes come first, and the next one tells no node.
-use Rattle.std.proofs.Common.{◌≡◌, ℕ, ◌+◌, nat_lt, Bool, true, false, List, [], ◌∷◌, ◌++◌, length, Option, Some, None, refl, sym, ap, ◌∙◌, subst, inl, inr}
+use Rattle.std.proofs.Common.{◌≡◌, ℕ, ◌+◌, nat_lt, Bool, true, false, List, [], ◌∷◌, ◌++◌, length, Option, Some, None, refl, ap, ◌∙◌, inl, inr}
 use mathlib.Core.Logic.{◌⊎◌}
 use Rattle.std.specs.Prelude.{MatchBool, MatchOption, ⊤}
 use Rattle.std.specs.List.{slice_get}
@@ -25,7 +25,6 @@ use Rattle.gc_graph.specs.History.{node_of, region_slot}
 use Rattle.gc_graph.specs.RegionSteps.{StepExport, StepImport, line_of_content, threads_with_orders}
 use Rattle.gc_graph.specs.Pause.{condemn, live_count, dead_count, run_order, prefinalise_lines}
 use Rattle.gc_graph.specs.Step.{Step}
-use Rattle.heap_cycle.specs.Printed.{Printed, ran_lines, lines_with, TellsNode}
 
 -- ---- what a command doesn't answer
 

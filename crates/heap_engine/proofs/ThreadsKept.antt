@@ -7,8 +7,6 @@ use Rattle.std.proofs.lemmas.List.{append-nil, append_assoc, drop-append-le, len
 use Rattle.std.proofs.lemmas.List.Elements.{All-append}
 use Rattle.gc_graph.specs.declared.command.Command.{Command}
 use Rattle.gc_graph.specs.declared.command.Command.TheVariants as C
-use Rattle.gc_graph.specs.declared.command.Order.{Order}
-use Rattle.gc_graph.specs.declared.command.Want.{Want}
 use Rattle.gc_graph.specs.declared.region.Entry.{Entry}
 use Rattle.gc_graph.specs.CycleSteps.{is_marking}
 use Rattle.gc_graph.specs.History.{IsLegalFrom}
@@ -30,9 +28,9 @@ use Rattle.gc_graph.specs.OnceLaw.{NodesStayPut}
 use Rattle.heap_cycle.specs.Parts.{counted, setup_of, state_of, IsReady}
 use Rattle.heap_cycle.specs.Region.{HasRegion, made}
 use Rattle.thread_queues.specs.Queues.{QueuesView}
-use Rattle.heap_engine.specs.Alone.{leaves_region}
+use Rattle.heap_engine.specs.CarriedOut.{LeavesShared}
 use Rattle.heap_engine.specs.Going.{HasTold, IsReplyLine, MayHaveGone}
-use Rattle.heap_engine.proofs.RegionAlone.{none_made, region_alone}
+use Rattle.heap_engine.proofs.RegionAlone.{leaves_region, none_made, region_alone}
 use Rattle.heap_engine.proofs.ThreadsTold.{all_replies}
 use Rattle.heap_cycle.specs.Shared.{HasAhead, HasShared, HasThreads, HaveAnswered, IsOwners, MayTake, TakesAhead, ahead_of, taken_of}
 use Rattle.heap_cycle.specs.ThreadEntries.{entries_on, owners_by_none, thread_above}
@@ -205,24 +203,19 @@ took_behind h after (inr takes) =
     ∙ append_assoc (taken_of h) (ahead_of h) takes.own in
     ap (take (length (taken_of h))) all ∙ take-append_seam (taken_of h) (ahead_of h ++ takes.own)
 
--- what a command that is none on threads leaves of the region and the threads
-pub record LeavesShared (command : Command) (s new : Parts) (h after : Shared) : Type 0 where
-  pub shared : HasShared (counted new) after
-  pub grown : Begins (taken_of h) (taken_of after)
-  pub told : HasTold after
-  pub quiet : after.telling ≡ false
-  pub totals : MayHaveGone command (state_of s) h after
+-- a command that is none on threads is no join
+pub no_join_of : (command : Command) → is_of_threads command ≡ false → command ≡ C.ThreadsJoin → ⊥
+no_join_of command other is = true≢false (sym (ap is_of_threads is) ∙ other)
 
-pub shared_kept : (s new : Parts) (h after : Shared) (command : Command) (lines : List Line) → StepsFollow → StepsLeaveThreads → is_of_threads command ≡ false
-    → (command ≡ C.ThreadsJoin → ⊥) → HasShared s h → HasTold h → h.telling ≡ false → HasRegion new (taken_of after) → MayTake h after
+pub shared_kept : (s new : Parts) (h after : Shared) (command : Command) (lines : List Line) → StepsFollow → StepsLeaveThreads → is_of_threads command ≡ false → HasShared s h → HasTold h → h.telling ≡ false → HasRegion new (taken_of after) → MayTake h after
     → Step (setup_of s) (state_of s) command (made (taken_of h) (taken_of after)) lines (answered (state_of new)) → new.cycle.rest.ordinal + 1 ≡ s.cycle.rest.ordinal + 1
     → LeavesShared command s new h after
-shared_kept s new h after command lines follow leave other no_join shared told quiet region may step ordinal =
+shared_kept s new h after command lines follow leave other shared told quiet region may step ordinal =
     let piece : List Entry = made (taken_of h) (taken_of after) in
     let t : State = answered (state_of new) in
     let leaves : LeavesThreads (state_of s) command piece t = leave (setup_of s) (state_of s) command piece lines t step in
     let follows : Follows (state_of s) piece t = follow (setup_of s) (state_of s) command piece lines t step in
-    let is : LeavesAll (state_of s) t command piece = record { leaves = leaves; other = other; no_join = no_join; ordinal = ordinal } in
+    let is : LeavesAll (state_of s) t command piece = record { leaves = leaves; other = other; no_join = no_join_of command other; ordinal = ordinal } in
     record {
       shared = record {
         region = record { slots = region.slots; placed = region.placed; started = region.started };
@@ -241,21 +234,18 @@ shared_kept s new h after command lines follow leave other no_join shared told q
 
 -- ---- a command that leaves the region alone
 
-alone_calm : (command : Command) → leaves_region command ≡ true → is_of_threads command ≡ false
+pub alone_calm : (command : Command) → leaves_region command ≡ true → is_of_threads command ≡ false
 alone_calm (C.At j order) is = absurd (true≢false (sym is))
 alone_calm C.ThreadsGo is = absurd (true≢false (sym is))
 alone_calm C.ThreadsJoin is = absurd (true≢false (sym is))
 alone_calm _ is = refl
-
-no_join_alone : (command : Command) → leaves_region command ≡ true → command ≡ C.ThreadsJoin → ⊥
-no_join_alone command alone is = true≢false (sym alone ∙ ap leaves_region is)
 
 pub alone_kept : (s new : Parts) (h : Shared) (command : Command) (lines : List Line) → StepsFollow → StepsLeaveThreads → NodesStayPut → 0 < s.objects.shape.pages
     → IsAllowed (length s.objects.types) command → leaves_region command ≡ true → IsReady s → HasShared s h → HasTold h → h.telling ≡ false
     → Step (setup_of s) (state_of s) command [] lines (answered (state_of new)) → new.cycle.rest.ordinal + 1 ≡ s.cycle.rest.ordinal + 1 → LeavesShared command s new h h
 alone_kept s new h command lines follow leave stay some allowed alone ready shared told quiet step ordinal =
     let region : HasRegion new (taken_of h) = region_alone s new (taken_of h) command lines follow stay some allowed ready shared.region step in
-    shared_kept s new h h command lines follow leave (alone_calm command alone) (no_join_alone command alone) shared told quiet region (inl refl)
+    shared_kept s new h h command lines follow leave (alone_calm command alone) shared told quiet region (inl refl)
     (subst (λ piece. Step (setup_of s) (state_of s) command piece lines (answered (state_of new))) (sym (none_made (taken_of h))) step) ordinal
 
 -- ---- the flag of a join
@@ -323,19 +313,3 @@ told_gone s h after told kept threads awaits =
       replies = subst (All IsReplyLine) (sym have.replies) (all_replies have.answers s.running);
       shown = omega (arith, told.shown, ap (λ (x : Shared). x.shown) kept, ap (λ (x : Shared). x.taken) kept);
     }
-
--- ---- which commands leave the region alone
-
--- all but these
-pub leaves_unless : (command : Command) → (command ≡ C.GcStart → ⊥) → ((want : Want) → command ≡ C.GcFinish want → ⊥) → ((want : Want) → command ≡ C.GcNow want → ⊥)
-    → ((p x : ℕ) → command ≡ C.Export p x → ⊥) → ((x p : ℕ) → command ≡ C.Import x p → ⊥) → ((j : ℕ) (order : Order) → command ≡ C.At j order → ⊥)
-    → (command ≡ C.ThreadsGo → ⊥) → (command ≡ C.ThreadsJoin → ⊥) → leaves_region command ≡ true
-leaves_unless C.GcStart start finish now export import at go join = absurd (start refl)
-leaves_unless (C.GcFinish want) start finish now export import at go join = absurd (finish want refl)
-leaves_unless (C.GcNow want) start finish now export import at go join = absurd (now want refl)
-leaves_unless (C.Export p x) start finish now export import at go join = absurd (export p x refl)
-leaves_unless (C.Import x p) start finish now export import at go join = absurd (import x p refl)
-leaves_unless (C.At j order) start finish now export import at go join = absurd (at j order refl)
-leaves_unless C.ThreadsGo start finish now export import at go join = absurd (go refl)
-leaves_unless C.ThreadsJoin start finish now export import at go join = absurd (join refl)
-leaves_unless _ start finish now export import at go join = refl

@@ -1,9 +1,9 @@
 pub mod View
 pub mod FieldSteps
 pub mod Going
-pub mod Alone
 pub mod Ended
 pub mod Sound
+pub mod CarriedOut
 pub mod Acted
 -- Words of the crates below that the crates above name too.
 pub use Rattle.heap_cycle.specs.Objects

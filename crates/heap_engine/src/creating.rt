@@ -2,6 +2,7 @@
 
 ghost use Rattle.std.specs.Prelude.{◌≡◌, ◌≢◌, ◌*◌, ◌<◌, ◌≤◌, false, []};
 ghost use Rattle.std.specs.Prelude.{length, IfOk, OnOk, OnErr};
+ghost use Rattle.gc_graph.specs.declared.command.Command.TheVariants as C;
 ghost use Rattle.gc_graph.specs.State.{type_at};
 ghost use Rattle.gc_graph.specs.Outcomes.{answered};
 ghost use Rattle.gc_graph.specs.ObjectSteps.{StepNew};
@@ -10,6 +11,7 @@ ghost use Rattle.heap_cycle.specs.Objects.{HaveCallbacks};
 ghost use Rattle.heap_cycle.specs.Parts.{setup_of, state_of, counted, registered_in};
 ghost use Rattle.heap_cycle.specs.Parts.{IsReady, IsFrame};
 ghost use Rattle.heap_cycle.specs.Printed.{lines_with};
+ghost use Rattle.heap_engine.specs.CarriedOut.{IsDoneAlone, TellsNothing};
 
 use gc_graph::{Line, NoMemory};
 use heap_cycle::{Outcome, Parts, place_for};
@@ -18,7 +20,21 @@ use heap_cycle::{Outcome, Parts, place_for};
 /// are registered first, and taken away again where the heap is full. Memory can be wanting for
 /// them alone. While a sweep is open, pages are swept on the way to a place, and while marking goes
 /// on, the new object may be kept.
-pub fn new_object(parts: &mut Parts, outcome: &mut Outcome, p: u32, t: u32, extra: u32) -> Line
+pub fn new_object(parts: &mut Parts, outcome: &mut Outcome, p: u32, t: u32, extra: u32)
+    requires ready { IsReady parts.old }
+    requires slot { p < 256 }
+    requires ty { t < length parts.old.objects.types }
+    requires extra { extra ≤ 33554432 }
+    requires nothing { TellsNothing outcome.old }
+    requires room { word_count parts.old.objects.shape ≤ 2 * outcome.old.room }
+    ensures done { IsDoneAlone (C.New p t extra) parts.old parts.new outcome.old outcome.new }
+{
+    let line = make(parts, outcome, p, t, extra);
+    outcome.end(line);
+}
+
+/// The line that tells of the new object.
+fn make(parts: &mut Parts, outcome: &mut Outcome, p: u32, t: u32, extra: u32) -> Line
     requires ready { IsReady parts.old }
     requires slot { p < 256 }
     requires ty { t < length parts.old.objects.types }

@@ -2,57 +2,54 @@
 
 ghost use Rattle.std.specs.Prelude.{◌≡◌, ◌<◌, [], ◌∷◌, None};
 ghost use Rattle.std.specs.Prelude.{MatchOption, IfSome, slice_index_or};
-ghost use Rattle.gc_graph.specs.declared.kind.Value.TheVariants.{Null};
+ghost use Rattle.gc_graph.specs.declared.command.Command.TheVariants as C;
 ghost use Rattle.gc_graph.specs.declared.line.Line.TheVariants as L;
 ghost use Rattle.gc_graph.specs.declared.line.Refusal.TheVariants as R;
-ghost use Rattle.gc_graph.specs.Fields.{content_of, is_weak};
-ghost use Rattle.gc_graph.specs.Outcomes.{answered, slot_at};
-ghost use Rattle.gc_graph.specs.ObjectSteps.{StepSet, StepGet, StepPut, StepWord};
+ghost use Rattle.gc_graph.specs.Fields.{is_weak};
+ghost use Rattle.gc_graph.specs.Outcomes.{answered};
+ghost use Rattle.gc_graph.specs.ObjectSteps.{StepGet, StepWord};
 ghost use Rattle.heap_cycle.specs.Nodes.{place_of, word_of};
 ghost use Rattle.heap_cycle.specs.Fields.{allows, IsFieldAt, Suits};
 ghost use Rattle.heap_cycle.specs.Objects.{IsLiveAt};
+ghost use Rattle.heap_engine.specs.CarriedOut.{IsDoneAlone, TellsNothing};
 ghost use Rattle.heap_engine.specs.FieldSteps.{StepWrite, IsKeptIn, HasRead};
 ghost use Rattle.heap_cycle.specs.Parts.{state_of, counted, IsReady, IsFrame};
 
 use gc_graph::{Kind, Line, Refusal};
-use heap_cycle::{Content, Field, Parts, Wanted, read_weakly};
+use heap_cycle::{Content, Field, Outcome, Parts, Wanted, read_weakly};
 
 /// Field f of slot p's object gets what slot q holds. The field is a strong or a weak one.
-pub fn set(parts: &mut Parts, p: u32, f: u32, q: u32) -> Line
+pub fn set(parts: &mut Parts, outcome: &mut Outcome, p: u32, f: u32, q: u32)
     requires ready { IsReady parts.old }
     requires slot { p < 256 }
     requires content { q < 256 }
-    ensures step { StepSet (state_of parts.old) p f
-        (content_of (slot_at (state_of parts.old) q)) (result ∷ [])
-        (answered (state_of parts.new)) }
-    ensures frame { IsFrame parts.old (counted parts.new) result }
+    requires nothing { TellsNothing outcome.old }
+    ensures done { IsDoneAlone (C.Set p f q) parts.old parts.new outcome.old outcome.new }
 {
     let content = parts.handles.content(q);
-    write(parts, p, f, Wanted::References, &content)
+    outcome.end(write(parts, p, f, Wanted::References, &content));
 }
 
 /// Field f of slot p's object becomes null. The field is a strong or a weak one.
-pub fn set_null(parts: &mut Parts, p: u32, f: u32) -> Line
+pub fn set_null(parts: &mut Parts, outcome: &mut Outcome, p: u32, f: u32)
     requires ready { IsReady parts.old }
     requires slot { p < 256 }
-    ensures step { StepSet (state_of parts.old) p f Null (result ∷ [])
-        (answered (state_of parts.new)) }
-    ensures frame { IsFrame parts.old (counted parts.new) result }
+    requires nothing { TellsNothing outcome.old }
+    ensures done { IsDoneAlone (C.SetNull p f) parts.old parts.new outcome.old outcome.new }
 {
     let content = Content::null();
-    write(parts, p, f, Wanted::References, &content)
+    outcome.end(write(parts, p, f, Wanted::References, &content));
 }
 
 /// The plain field f of slot p's object becomes a number.
-pub fn put(parts: &mut Parts, p: u32, f: u32, n: u64) -> Line
+pub fn put(parts: &mut Parts, outcome: &mut Outcome, p: u32, f: u32, n: u64)
     requires ready { IsReady parts.old }
     requires slot { p < 256 }
-    ensures step { StepPut (state_of parts.old) p f n (result ∷ [])
-        (answered (state_of parts.new)) }
-    ensures frame { IsFrame parts.old (counted parts.new) result }
+    requires nothing { TellsNothing outcome.old }
+    ensures done { IsDoneAlone (C.Put p f n) parts.old parts.new outcome.old outcome.new }
 {
     let content = Content::number(n);
-    write(parts, p, f, Wanted::Numbers, &content)
+    outcome.end(write(parts, p, f, Wanted::Numbers, &content));
 }
 
 /// Field f of slot p's object gets the content, where it is one of those wanted.
@@ -79,7 +76,18 @@ fn write(parts: &mut Parts, p: u32, f: u32, wanted: Wanted, content: &Content) -
 }
 
 /// Slot q gets what field f of slot p's object holds. The field is a strong or a weak one.
-pub fn get(parts: &mut Parts, p: u32, f: u32, q: u32) -> Line
+pub fn get(parts: &mut Parts, outcome: &mut Outcome, p: u32, f: u32, q: u32)
+    requires ready { IsReady parts.old }
+    requires slot { p < 256 }
+    requires into { q < 256 }
+    requires nothing { TellsNothing outcome.old }
+    ensures done { IsDoneAlone (C.Get p f q) parts.old parts.new outcome.old outcome.new }
+{
+    outcome.end(read_field(parts, p, f, q));
+}
+
+/// Slot q gets what field f of slot p's object holds.
+fn read_field(parts: &mut Parts, p: u32, f: u32, q: u32) -> Line
     requires ready { IsReady parts.old }
     requires slot { p < 256 }
     requires into { q < 256 }
@@ -111,7 +119,17 @@ fn keep_read(parts: &mut Parts, kind: Kind, target: Option<(u32, u32)>)
 }
 
 /// Tells the number in the plain field f of slot p's object.
-pub fn word(parts: &mut Parts, p: u32, f: u32) -> Line
+pub fn word(parts: &mut Parts, outcome: &mut Outcome, p: u32, f: u32)
+    requires ready { IsReady parts.old }
+    requires slot { p < 256 }
+    requires nothing { TellsNothing outcome.old }
+    ensures done { IsDoneAlone (C.Word p f) parts.old parts.new outcome.old outcome.new }
+{
+    outcome.end(read_word(parts, p, f));
+}
+
+/// The line that tells the number.
+fn read_word(parts: &mut Parts, p: u32, f: u32) -> Line
     requires ready { IsReady parts.old }
     requires slot { p < 256 }
     ensures step { StepWord (state_of parts.old) p f (result ∷ []) (answered (state_of parts.new)) }

@@ -1,5 +1,5 @@
 // The parts of a heap, with the region and the script's threads beside them. Each command is one step of
-// the graph; `commands` and the files below it do them.
+// the graph; `commands` says which function does it.
 
 ghost use Rattle.std.specs.Prelude.{◌≡◌, ◌<◌};
 ghost use Rattle.std.specs.Prelude.{true, false, [], ◌∷◌, length, take, Some};
@@ -7,7 +7,6 @@ ghost use Rattle.std.specs.Prelude.{◌≤◌, IfOk, IfSome, IfNone, slice_get};
 ghost use Rattle.gc_graph.specs.declared.line.Line.{Line};
 ghost use Rattle.gc_graph.specs.State.{empty_state};
 ghost use Rattle.gc_graph.specs.Sections.{IsInSection};
-ghost use Rattle.gc_graph.specs.declared.command.Command.TheVariants as C;
 ghost use Rattle.gc_graph.specs.Outcomes.{finalise_lines};
 ghost use Rattle.gc_graph.specs.Lawful.{IsAllowed, IsEndLine, summary_line};
 ghost use Rattle.gc_graph.specs.Shapes.{IsShape};
@@ -126,28 +125,6 @@ impl Core {
         requires kinds { kinds_of callbacks.now ≡ self.old.setup.callbacks }
         ensures acted { IsActed self.old self.new command.now result }
     {
-        match command {
-            Command::ThreadsJoin => self.join(),
-            _ => self.run(rt, command, callbacks, gate),
-        }
-    }
-
-    /// Does a command that is no join.
-    fn run<R: Threads, G: Gate + Send + Sync + 'static>(
-        &mut self,
-        rt: &R,
-        command: &Command,
-        callbacks: &CallbackTable,
-        gate: &Arc<G>,
-    ) -> u32
-        requires few { self.old.state.ordinal < 1000000 }
-        requires opened { self.old.closed ≡ false }
-        requires allowed { IsAllowed (length self.old.setup.types) command.now }
-        requires section { IsInSection self.old.state.awaiting command.now }
-        requires other { ¬ (command.now ≡ C.ThreadsJoin) }
-        requires kinds { kinds_of callbacks.now ≡ self.old.setup.callbacks }
-        ensures acted { IsActed self.old self.new command.now result }
-    {
         self.parts.objects.shape_is_valid();
         gc_graph::step_keeps_valid();
         gc_graph::steps_count();
@@ -166,26 +143,7 @@ impl Core {
         );
         self.parts.objects.seat_has_all_words();
         self.parts.cycle.count_command();
-        self.outcome.count(self.parts.cycle.ran())
-    }
-
-    /// Joins the threads: their replies are told, and the entries that were not printed.
-    fn join(&mut self) -> u32
-        requires few { self.old.state.ordinal < 1000000 }
-        requires opened { self.old.closed ≡ false }
-        requires awaited { self.old.state.awaiting ≡ true }
-        ensures acted { IsActed self.old self.new C.ThreadsJoin result }
-    {
-        gc_graph::step_keeps_valid();
-        gc_graph::steps_count();
-        self.parts.objects.shape_is_valid();
-        self.before = self.shared.history();
-        self.outcome.begin();
-        let count = heap_cycle::join(&mut self.parts, &mut self.shared);
-        self.parts.objects.seat_has_all_words();
-        self.outcome.end(Line::Joined { m: count });
-        self.parts.cycle.count_command();
-        self.shared.told_count() + 1
+        self.shared.told_count() + self.outcome.count(self.parts.cycle.ran())
     }
 
     pub fn line(&mut self, index: u32) -> Line

@@ -4,11 +4,10 @@
 //! each command is one step of the graph that `gc_graph` defines.
 //!
 //! The parts: `Heap`, `Config`, and `Core`, which has the model: `Parts` (of `heap_cycle`), the
-//! region with the threads beside them, and an outcome. `commands` gives the parts and the region to
-//! the commands that touch the region (starts, pauses, and those in `shared` and `threads`), and
-//! `alone` the parts to the others (`creating`, `fields`, `pairs`, `slots`, `stacking`, `totals`, and
-//! in `heap_cycle` steps and sweeps); both end the outcome. `going` is for contracts alone. Next down
-//! are `heap_cycle`, `heap_roots` and `heap_objects`.
+//! region with the threads beside them, and an outcome. `commands` says which function does a command;
+//! these stand by their subjects in `creating`, `fields`, `pairs`, `slots`, `stacking`, `cycles`,
+//! `totals`, `shared` and `threads`, and end the outcome. `going` is for contracts alone. Next down are
+//! `heap_cycle`, `heap_roots` and `heap_objects`.
 //!
 //! What is proved: `act` is a step from the heap's own state to its new state, for every command
 //! that is allowed and stands in its section, and its lines are those of the step; the pieces that
@@ -26,9 +25,9 @@
 //! What is only tested or not said: that memory suffices, and how long a command takes.
 #![tactic(auto)]
 
-mod alone;
 mod commands;
 mod creating;
+mod cycles;
 mod fields;
 mod going;
 mod heap;

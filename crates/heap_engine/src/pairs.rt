@@ -1,73 +1,70 @@
 // The commands on ephemeron pairs (`include/cppgc/ephemeron-pair.h`).
 
-ghost use Rattle.std.specs.Prelude.{◌≡◌, ◌<◌, [], ◌∷◌, None};
-ghost use Rattle.gc_graph.specs.Outcomes.{answered, slot_at};
-ghost use Rattle.gc_graph.specs.ObjectSteps.{StepPair, StepKey, StepVal};
+ghost use Rattle.std.specs.Prelude.{◌≡◌, ◌<◌, [], ◌∷◌};
+ghost use Rattle.gc_graph.specs.declared.command.Command.TheVariants as C;
+ghost use Rattle.gc_graph.specs.Outcomes.{answered};
 ghost use Rattle.heap_cycle.specs.Barrier.{MayKeepNamed};
 ghost use Rattle.heap_cycle.specs.Nodes.{place_of, word_of};
 ghost use Rattle.heap_cycle.specs.Fields.{ArePartsOf};
+ghost use Rattle.heap_engine.specs.CarriedOut.{IsDoneAlone, TellsNothing};
 ghost use Rattle.heap_engine.specs.FieldSteps.{StepPart, StepWholePair};
 ghost use Rattle.heap_cycle.specs.Parts.{state_of, counted, IsReady, IsFrame};
 
 use crate::fields::{field_of, line_of};
 use gc_graph::Line;
-use heap_cycle::{Content, PairContent, Part, Parts, Wanted, read_weakly};
+use heap_cycle::{Content, Outcome, PairContent, Part, Parts, Wanted, read_weakly};
 
 /// The pair that is field f of slot p's object gets what slot k holds as its key and what slot v
 /// holds as its value, and becomes null where either slot is.
-pub fn pair(parts: &mut Parts, p: u32, f: u32, k: u32, v: u32) -> Line
+pub fn pair(parts: &mut Parts, outcome: &mut Outcome, p: u32, f: u32, k: u32, v: u32)
     requires ready { IsReady parts.old }
     requires slot { p < 256 }
     requires key { k < 256 }
     requires value { v < 256 }
-    ensures step { StepPair (state_of parts.old) p f (slot_at (state_of parts.old) k)
-        (slot_at (state_of parts.old) v) (result ∷ []) (answered (state_of parts.new)) }
-    ensures frame { IsFrame parts.old (counted parts.new) result }
+    requires nothing { TellsNothing outcome.old }
+    ensures done { IsDoneAlone (C.Pair p f k v) parts.old parts.new outcome.old outcome.new }
 {
     let pair = PairContent {
         key: parts.handles.part(k, v),
         value: parts.handles.part(v, k),
     };
-    write_pair(parts, p, f, &pair)
+    outcome.end(write_pair(parts, p, f, &pair));
 }
 
 /// The pair that is field f of slot p's object becomes null.
-pub fn pair_null(parts: &mut Parts, p: u32, f: u32) -> Line
+pub fn pair_null(parts: &mut Parts, outcome: &mut Outcome, p: u32, f: u32)
     requires ready { IsReady parts.old }
     requires slot { p < 256 }
-    ensures step { StepPair (state_of parts.old) p f None None (result ∷ [])
-        (answered (state_of parts.new)) }
-    ensures frame { IsFrame parts.old (counted parts.new) result }
+    requires nothing { TellsNothing outcome.old }
+    ensures done { IsDoneAlone (C.PairNull p f) parts.old parts.new outcome.old outcome.new }
 {
     let pair = PairContent {
         key: Content::null(),
         value: Content::null(),
     };
-    write_pair(parts, p, f, &pair)
+    outcome.end(write_pair(parts, p, f, &pair));
 }
 
 /// Slot q gets the key of the pair that is field f of slot p's object, by a weak read.
-pub fn key(parts: &mut Parts, p: u32, f: u32, q: u32) -> Line
+pub fn key(parts: &mut Parts, outcome: &mut Outcome, p: u32, f: u32, q: u32)
     requires ready { IsReady parts.old }
     requires slot { p < 256 }
     requires into { q < 256 }
-    ensures step { StepKey (state_of parts.old) p f q (result ∷ [])
-        (answered (state_of parts.new)) }
-    ensures frame { IsFrame parts.old (counted parts.new) result }
+    requires nothing { TellsNothing outcome.old }
+    ensures done { IsDoneAlone (C.Key p f q) parts.old parts.new outcome.old outcome.new }
 {
-    read_part(parts, p, f, q, Part::Key)
+    outcome.end(read_part(parts, p, f, q, Part::Key));
 }
 
 /// Slot q gets the value of the pair that is field f of slot p's object, by a weak read.
-pub fn value(parts: &mut Parts, p: u32, f: u32, q: u32) -> Line
+pub fn value(parts: &mut Parts, outcome: &mut Outcome, p: u32, f: u32, q: u32)
     requires ready { IsReady parts.old }
     requires slot { p < 256 }
     requires into { q < 256 }
-    ensures step { StepVal (state_of parts.old) p f q (result ∷ [])
-        (answered (state_of parts.new)) }
-    ensures frame { IsFrame parts.old (counted parts.new) result }
+    requires nothing { TellsNothing outcome.old }
+    ensures done { IsDoneAlone (C.Val p f q) parts.old parts.new outcome.old outcome.new }
 {
-    read_part(parts, p, f, q, Part::Value)
+    outcome.end(read_part(parts, p, f, q, Part::Value));
 }
 
 /// The pair that is field f of slot p's object gets the key and the value.

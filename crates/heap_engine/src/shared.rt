@@ -2,19 +2,47 @@
 // (`include/cppgc/cross-thread-persistent.h`).
 
 ghost use Rattle.std.specs.Prelude.{◌≡◌, ◌<◌, [], ◌∷◌};
+ghost use Rattle.gc_graph.specs.declared.command.Command.TheVariants as C;
 ghost use Rattle.gc_graph.specs.Outcomes.{answered};
 ghost use Rattle.gc_graph.specs.RegionSteps.{StepExport, StepImport};
 ghost use Rattle.heap_cycle.specs.Parts.{state_of, counted, IsReady, IsFrame};
 ghost use Rattle.heap_cycle.specs.Region.{HasRegion};
 ghost use Rattle.heap_cycle.specs.Shared.{piece_of, taken_of, HasShared, MayTake};
+ghost use Rattle.heap_engine.specs.CarriedOut.{IsAsked, IsCarriedOut};
 
 use crate::fields::line_of;
 use gc_graph::{Line, NoMemory, Refusal};
-use heap_cycle::{Parts, Shared};
+use heap_cycle::{Outcome, Parts, Shared};
 
 /// Slot x of the region becomes strong for what slot p names. Want of memory is free.
-#[inline(never)]
-pub fn export(parts: &mut Parts, shared: &mut Shared, p: u32, x: u32) -> Line
+pub fn export(parts: &mut Parts, shared: &mut Shared, outcome: &mut Outcome, p: u32, x: u32)
+    requires asked { IsAsked parts.old shared.old outcome.old }
+    requires from { p < 256 }
+    requires into { x < 32 }
+    ensures done { IsCarriedOut (C.Export p x) parts.old shared.old parts.new shared.new
+        outcome.old outcome.new }
+{
+    gc_graph::steps_follow_the_history();
+    gc_graph::steps_leave_threads();
+    outcome.end(export_node(parts, shared, p, x));
+}
+
+/// Slot p gets what slot x of the region names; from a weak slot it is a weak read. Want of memory
+/// is free.
+pub fn import(parts: &mut Parts, shared: &mut Shared, outcome: &mut Outcome, x: u32, p: u32)
+    requires asked { IsAsked parts.old shared.old outcome.old }
+    requires from { x < 32 }
+    requires into { p < 256 }
+    ensures done { IsCarriedOut (C.Import x p) parts.old shared.old parts.new shared.new
+        outcome.old outcome.new }
+{
+    gc_graph::steps_follow_the_history();
+    gc_graph::steps_leave_threads();
+    outcome.end(import_node(parts, shared, x, p));
+}
+
+/// The slot becomes strong, where slot p isn't null.
+fn export_node(parts: &mut Parts, shared: &mut Shared, p: u32, x: u32) -> Line
     requires ready { IsReady parts.old }
     requires shared { HasShared parts.old shared.old }
     requires from { p < 256 }
@@ -35,10 +63,8 @@ pub fn export(parts: &mut Parts, shared: &mut Shared, p: u32, x: u32) -> Line
     }
 }
 
-/// Slot p gets what slot x of the region names; from a weak slot it is a weak read. Want of memory
-/// is free.
-#[inline(never)]
-pub fn import(parts: &mut Parts, shared: &mut Shared, x: u32, p: u32) -> Line
+/// The line that tells what slot p got.
+fn import_node(parts: &mut Parts, shared: &mut Shared, x: u32, p: u32) -> Line
     requires ready { IsReady parts.old }
     requires shared { HasShared parts.old shared.old }
     requires from { x < 32 }

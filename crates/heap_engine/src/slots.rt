@@ -1,53 +1,53 @@
 // The commands on slots, strong and weak (`include/cppgc/persistent.h`).
 
-ghost use Rattle.std.specs.Prelude.{◌≡◌, ◌<◌, [], ◌∷◌, None};
+ghost use Rattle.std.specs.Prelude.{◌≡◌, ◌<◌, None};
 ghost use Rattle.std.specs.Prelude.{IfSome, option_map, slice_index_or};
-ghost use Rattle.gc_graph.specs.Outcomes.{answered};
-ghost use Rattle.gc_graph.specs.HandleSteps.{StepCopy, StepDrop, StepWeak, StepRead};
+ghost use Rattle.gc_graph.specs.declared.command.Command.TheVariants as C;
 ghost use Rattle.heap_cycle.specs.Nodes.{place_of};
 ghost use Rattle.heap_cycle.specs.Objects.{IsLiveAt};
-ghost use Rattle.heap_cycle.specs.Parts.{state_of, counted, IsReady, IsFrame};
+ghost use Rattle.heap_cycle.specs.Parts.{IsReady};
+ghost use Rattle.heap_engine.specs.CarriedOut.{IsDoneAlone, TellsNothing};
 
 use crate::fields::line_of;
 use gc_graph::Line;
-use heap_cycle::{Parts, read_weakly};
+use heap_cycle::{Outcome, Parts, read_weakly};
 
 /// Slot q gets what slot p holds.
-pub fn copy(parts: &mut Parts, p: u32, q: u32) -> Line
+pub fn copy(parts: &mut Parts, outcome: &mut Outcome, p: u32, q: u32)
     requires ready { IsReady parts.old }
     requires from { p < 256 }
     requires into { q < 256 }
-    ensures step { StepCopy (state_of parts.old) p q (result ∷ []) (answered (state_of parts.new)) }
-    ensures frame { IsFrame parts.old (counted parts.new) result }
+    requires nothing { TellsNothing outcome.old }
+    ensures done { IsDoneAlone (C.Copy p q) parts.old parts.new outcome.old outcome.new }
 {
     parts.handles.copy(p, q);
-    Line::Fine
+    outcome.end(Line::Fine);
 }
 
 /// Weak slot w gets what slot p holds.
-pub fn weaken(parts: &mut Parts, w: u32, p: u32) -> Line
+pub fn weaken(parts: &mut Parts, outcome: &mut Outcome, w: u32, p: u32)
     requires ready { IsReady parts.old }
     requires into { w < 64 }
     requires from { p < 256 }
-    ensures step { StepWeak (state_of parts.old) w p (result ∷ []) (answered (state_of parts.new)) }
-    ensures frame { IsFrame parts.old (counted parts.new) result }
+    requires nothing { TellsNothing outcome.old }
+    ensures done { IsDoneAlone (C.Weak w p) parts.old parts.new outcome.old outcome.new }
 {
     parts.handles.weaken(w, p);
-    Line::Fine
+    outcome.end(Line::Fine);
 }
 
 /// Slot p gets what weak slot w holds, by a weak read.
-pub fn read(parts: &mut Parts, w: u32, p: u32) -> Line
+pub fn read(parts: &mut Parts, outcome: &mut Outcome, w: u32, p: u32)
     requires ready { IsReady parts.old }
     requires from { w < 64 }
     requires into { p < 256 }
-    ensures step { StepRead (state_of parts.old) w p (result ∷ []) (answered (state_of parts.new)) }
-    ensures frame { IsFrame parts.old (counted parts.new) result }
+    requires nothing { TellsNothing outcome.old }
+    ensures done { IsDoneAlone (C.Read w p) parts.old parts.new outcome.old outcome.new }
 {
     let target = weak_target(parts, w);
     read_weakly(parts, target);
     parts.handles.put(p, target);
-    line_of(target)
+    outcome.end(line_of(target));
 }
 
 /// The place and the number of what weak slot w holds.
@@ -66,12 +66,12 @@ fn weak_target(parts: &mut Parts, w: u32) -> Option<(u32, u32)>
 }
 
 /// Makes slot p null.
-pub fn drop_slot(parts: &mut Parts, p: u32) -> Line
+pub fn drop_slot(parts: &mut Parts, outcome: &mut Outcome, p: u32)
     requires ready { IsReady parts.old }
     requires slot { p < 256 }
-    ensures step { StepDrop (state_of parts.old) p (result ∷ []) (answered (state_of parts.new)) }
-    ensures frame { IsFrame parts.old (counted parts.new) result }
+    requires nothing { TellsNothing outcome.old }
+    ensures done { IsDoneAlone (C.Drop p) parts.old parts.new outcome.old outcome.new }
 {
     parts.handles.put(p, None);
-    Line::Fine
+    outcome.end(Line::Fine);
 }

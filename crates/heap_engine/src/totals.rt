@@ -1,20 +1,18 @@
 // How much the heap holds.
 
-ghost use Rattle.std.specs.Prelude.{[], ◌∷◌};
-ghost use Rattle.gc_graph.specs.Outcomes.{answered};
-ghost use Rattle.gc_graph.specs.CycleSteps.{StepStat};
-ghost use Rattle.heap_cycle.specs.Parts.{setup_of, state_of, counted, IsReady, IsFrame};
+ghost use Rattle.gc_graph.specs.declared.command.Command.TheVariants as C;
+ghost use Rattle.heap_cycle.specs.Parts.{IsReady};
+ghost use Rattle.heap_engine.specs.CarriedOut.{IsDoneAlone, TellsNothing};
 
 use gc_graph::Line;
-use heap_cycle::Parts;
+use heap_cycle::{Outcome, Parts};
 
 /// Tells how much the heap holds.
-pub fn stat(parts: &Parts) -> Line
+pub fn stat(parts: &Parts, outcome: &mut Outcome)
     requires ready { IsReady parts.now }
-    ensures step { StepStat (setup_of parts.now) (state_of parts.now) (result ∷ [])
-        (answered (state_of parts.now)) }
-    ensures frame { IsFrame parts.now (counted parts.now) result }
+    requires nothing { TellsNothing outcome.old }
+    ensures done { IsDoneAlone C.Stat parts.now parts.now outcome.old outcome.new }
 {
     let (n, u, g) = parts.objects.totals();
-    Line::Objects { n, u, g }
+    outcome.end(Line::Objects { n, u, g });
 }

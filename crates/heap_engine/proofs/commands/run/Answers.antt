@@ -1,38 +1,137 @@
-use Rattle.std.proofs.Common.{◌≡◌, true}
-use Rattle.heap_cycle.specs.Printed.{outcome_lines}
-use Rattle.heap_cycle.specs.Shared.{taken_of}
-use Rattle.heap_engine.specs.Alone.{leaves_region}
-use Rattle.heap_engine.proofs.RegionAlone.{none_made}
-use Rattle.heap_engine.proofs.ThreadsKept.{LeavesShared, alone_kept, leaves_unless}
-use Rattle.heap_engine.proofs.commands.run.Given as given
+use Rattle.std.proofs.Common.{refl}
+use Rattle.heap_engine.proofs.CommandsDone.{alone_done}
 use Rattle.heap_engine.proofs.commands.run.Goals as goal
 
--- the others leave the region alone
+-- these leave the region alone; what the others do is said of the region too
 
-leaves : (d : given.Over) (c : goal.After-run_alone d) → leaves_region c.args.command.now ≡ true
-leaves d c =
-    leaves_unless c.args.command.now c.in_default.not-GcStart c.in_default.not-GcFinish c.in_default.not-GcNow c.in_default.not-Export c.in_default.not-Import c.in_default.not-At
-    c.in_default.not-ThreadsGo c.requires.other
+pub returns-in-New : goal.returns-in-New
+returns-in-New d c = record {
+  done = alone_done _ _ _ _ _ _ _ c.in-New.is refl c.steps_follow_the_history.ensures c.steps_leave_threads.ensures c.nodes_stay_put.ensures
+      c.shape_is_valid.ensures.some c.requires.allowed c.requires.asked c.new_object.ensures.done;
+}
 
-alone_leaves : (d : given.Over) (c : goal.After-run_alone d) → LeavesShared c.args.command.now c.args.parts.now c.run_alone.new.parts c.args.shared.now c.args.shared.now
-alone_leaves d c =
-    alone_kept c.args.parts.now c.run_alone.new.parts c.args.shared.now c.args.command.now (outcome_lines c.run_alone.new.outcome c.run_alone.new.parts.cycle.ran)
-    c.steps_follow_the_history.ensures c.steps_leave_threads.ensures c.nodes_stay_put.ensures c.shape_is_valid.ensures.some c.requires.allowed (leaves d c) c.requires.ready c.requires.shared
-    c.requires.told c.requires.quiet c.run_alone.ensures.step c.run_alone.ensures.frame.ordinal
+pub returns-in-Set : goal.returns-in-Set
+returns-in-Set d c = record {
+  done = alone_done _ _ _ _ _ _ _ c.in-Set.is refl c.steps_follow_the_history.ensures c.steps_leave_threads.ensures c.nodes_stay_put.ensures
+      c.shape_is_valid.ensures.some c.requires.allowed c.requires.asked c.set.ensures.done;
+}
 
-pub returns-in_default : goal.returns-in_default
-returns-in_default d c = record {
-  ended = c.run_alone.ensures.ended;
-  step = rw (none_made (taken_of c.args.shared.now)) c.run_alone.ensures.step;
-  frame = c.run_alone.ensures.frame;
-  shared = (alone_leaves d c).shared;
-  grown = (alone_leaves d c).grown;
-  told = (alone_leaves d c).told;
-  quiet = (alone_leaves d c).quiet;
-  totals = (alone_leaves d c).totals;
-  ran = c.run_alone.ensures.ran;
-  marked = λ is told. absurd (c.in_default.not-GcStart is);
-  done = c.run_alone.ensures.done;
-  took = c.run_alone.ensures.took;
-  room = c.run_alone.ensures.room;
+pub returns-in-SetNull : goal.returns-in-SetNull
+returns-in-SetNull d c = record {
+  done = alone_done _ _ _ _ _ _ _ c.in-SetNull.is refl c.steps_follow_the_history.ensures c.steps_leave_threads.ensures c.nodes_stay_put.ensures
+      c.shape_is_valid.ensures.some c.requires.allowed c.requires.asked c.set_null.ensures.done;
+}
+
+pub returns-in-Pair : goal.returns-in-Pair
+returns-in-Pair d c = record {
+  done = alone_done _ _ _ _ _ _ _ c.in-Pair.is refl c.steps_follow_the_history.ensures c.steps_leave_threads.ensures c.nodes_stay_put.ensures
+      c.shape_is_valid.ensures.some c.requires.allowed c.requires.asked c.pair.ensures.done;
+}
+
+pub returns-in-PairNull : goal.returns-in-PairNull
+returns-in-PairNull d c = record {
+  done = alone_done _ _ _ _ _ _ _ c.in-PairNull.is refl c.steps_follow_the_history.ensures c.steps_leave_threads.ensures c.nodes_stay_put.ensures
+      c.shape_is_valid.ensures.some c.requires.allowed c.requires.asked c.pair_null.ensures.done;
+}
+
+pub returns-in-Put : goal.returns-in-Put
+returns-in-Put d c = record {
+  done = alone_done _ _ _ _ _ _ _ c.in-Put.is refl c.steps_follow_the_history.ensures c.steps_leave_threads.ensures c.nodes_stay_put.ensures
+      c.shape_is_valid.ensures.some c.requires.allowed c.requires.asked c.put.ensures.done;
+}
+
+pub returns-in-Word : goal.returns-in-Word
+returns-in-Word d c = record {
+  done = alone_done _ _ _ _ _ _ _ c.in-Word.is refl c.steps_follow_the_history.ensures c.steps_leave_threads.ensures c.nodes_stay_put.ensures
+      c.shape_is_valid.ensures.some c.requires.allowed c.requires.asked c.word.ensures.done;
+}
+
+pub returns-in-Get : goal.returns-in-Get
+returns-in-Get d c = record {
+  done = alone_done _ _ _ _ _ _ _ c.in-Get.is refl c.steps_follow_the_history.ensures c.steps_leave_threads.ensures c.nodes_stay_put.ensures
+      c.shape_is_valid.ensures.some c.requires.allowed c.requires.asked c.get.ensures.done;
+}
+
+pub returns-in-Key : goal.returns-in-Key
+returns-in-Key d c = record {
+  done = alone_done _ _ _ _ _ _ _ c.in-Key.is refl c.steps_follow_the_history.ensures c.steps_leave_threads.ensures c.nodes_stay_put.ensures
+      c.shape_is_valid.ensures.some c.requires.allowed c.requires.asked c.key.ensures.done;
+}
+
+pub returns-in-Val : goal.returns-in-Val
+returns-in-Val d c = record {
+  done = alone_done _ _ _ _ _ _ _ c.in-Val.is refl c.steps_follow_the_history.ensures c.steps_leave_threads.ensures c.nodes_stay_put.ensures
+      c.shape_is_valid.ensures.some c.requires.allowed c.requires.asked c.value.ensures.done;
+}
+
+pub returns-in-Copy : goal.returns-in-Copy
+returns-in-Copy d c = record {
+  done = alone_done _ _ _ _ _ _ _ c.in-Copy.is refl c.steps_follow_the_history.ensures c.steps_leave_threads.ensures c.nodes_stay_put.ensures
+      c.shape_is_valid.ensures.some c.requires.allowed c.requires.asked c.copy.ensures.done;
+}
+
+pub returns-in-Drop : goal.returns-in-Drop
+returns-in-Drop d c = record {
+  done = alone_done _ _ _ _ _ _ _ c.in-Drop.is refl c.steps_follow_the_history.ensures c.steps_leave_threads.ensures c.nodes_stay_put.ensures
+      c.shape_is_valid.ensures.some c.requires.allowed c.requires.asked c.drop_slot.ensures.done;
+}
+
+pub returns-in-Weak : goal.returns-in-Weak
+returns-in-Weak d c = record {
+  done = alone_done _ _ _ _ _ _ _ c.in-Weak.is refl c.steps_follow_the_history.ensures c.steps_leave_threads.ensures c.nodes_stay_put.ensures
+      c.shape_is_valid.ensures.some c.requires.allowed c.requires.asked c.weaken.ensures.done;
+}
+
+pub returns-in-Read : goal.returns-in-Read
+returns-in-Read d c = record {
+  done = alone_done _ _ _ _ _ _ _ c.in-Read.is refl c.steps_follow_the_history.ensures c.steps_leave_threads.ensures c.nodes_stay_put.ensures
+      c.shape_is_valid.ensures.some c.requires.allowed c.requires.asked c.read.ensures.done;
+}
+
+pub returns-in-Push : goal.returns-in-Push
+returns-in-Push d c = record {
+  done = alone_done _ _ _ _ _ _ _ c.in-Push.is refl c.steps_follow_the_history.ensures c.steps_leave_threads.ensures c.nodes_stay_put.ensures
+      c.shape_is_valid.ensures.some c.requires.allowed c.requires.asked c.push.ensures.done;
+}
+
+pub returns-in-PushPlain : goal.returns-in-PushPlain
+returns-in-PushPlain d c = record {
+  done = alone_done _ _ _ _ _ _ _ c.in-PushPlain.is refl c.steps_follow_the_history.ensures c.steps_leave_threads.ensures c.nodes_stay_put.ensures
+      c.shape_is_valid.ensures.some c.requires.allowed c.requires.asked c.push_plain.ensures.done;
+}
+
+pub returns-in-Pop : goal.returns-in-Pop
+returns-in-Pop d c = record {
+  done = alone_done _ _ _ _ _ _ _ c.in-Pop.is refl c.steps_follow_the_history.ensures c.steps_leave_threads.ensures c.nodes_stay_put.ensures
+      c.shape_is_valid.ensures.some c.requires.allowed c.requires.asked c.pop.ensures.done;
+}
+
+pub returns-in-Peek : goal.returns-in-Peek
+returns-in-Peek d c = record {
+  done = alone_done _ _ _ _ _ _ _ c.in-Peek.is refl c.steps_follow_the_history.ensures c.steps_leave_threads.ensures c.nodes_stay_put.ensures
+      c.shape_is_valid.ensures.some c.requires.allowed c.requires.asked c.peek.ensures.done;
+}
+
+pub returns-in-GcStep : goal.returns-in-GcStep
+returns-in-GcStep d c = record {
+  done = alone_done _ _ _ _ _ _ _ c.in-GcStep.is refl c.steps_follow_the_history.ensures c.steps_leave_threads.ensures c.nodes_stay_put.ensures
+      c.shape_is_valid.ensures.some c.requires.allowed c.requires.asked c.step.ensures.done;
+}
+
+pub returns-in-Sweep : goal.returns-in-Sweep
+returns-in-Sweep d c = record {
+  done = alone_done _ _ _ _ _ _ _ c.in-Sweep.is refl c.steps_follow_the_history.ensures c.steps_leave_threads.ensures c.nodes_stay_put.ensures
+      c.shape_is_valid.ensures.some c.requires.allowed c.requires.asked c.sweep_some.ensures.done;
+}
+
+pub returns-in-SweepAll : goal.returns-in-SweepAll
+returns-in-SweepAll d c = record {
+  done = alone_done _ _ _ _ _ _ _ c.in-SweepAll.is refl c.steps_follow_the_history.ensures c.steps_leave_threads.ensures c.nodes_stay_put.ensures
+      c.shape_is_valid.ensures.some c.requires.allowed c.requires.asked c.sweep_all.ensures.done;
+}
+
+pub returns-in-Stat : goal.returns-in-Stat
+returns-in-Stat d c = record {
+  done = alone_done _ _ _ _ _ _ _ c.in-Stat.is refl c.steps_follow_the_history.ensures c.steps_leave_threads.ensures c.nodes_stay_put.ensures
+      c.shape_is_valid.ensures.some c.requires.allowed c.requires.asked c.stat.ensures.done;
 }

@@ -1,19 +1,14 @@
-use Rattle.gc_graph.specs.History.{node_of, region_slot}
-use Rattle.gc_graph.specs.Outcomes.{took}
-use Rattle.cross_thread_region.specs.Histories.{entries_of}
-use Rattle.heap_cycle.specs.Parts.{state_of}
-use Rattle.heap_cycle.specs.Shared.{ahead_of}
-use Rattle.heap_engine.proofs.SharedSteps.{step_imported}
-use Rattle.heap_engine.proofs.SlotReads.{put_frame}
+use Rattle.std.proofs.Common.{◌∷◌, [], refl, sym, ◌∙◌}
+use Rattle.std.proofs.lemmas.Bool.{true≢false}
+use Rattle.gc_graph.specs.declared.command.Command.TheVariants as C
+use Rattle.heap_engine.proofs.CommandsDone.{taking_done}
+use Rattle.heap_engine.proofs.OutcomeLines.{line_alone}
 use Rattle.heap_engine.proofs.shared.import.Goals as goal
 
-pub returns-in-Ok-clause-step : goal.returns-in-Ok-clause-step
-returns-in-Ok-clause-step c =
-    step_imported c.args.parts.now c.import.new.parts c.put.new.self c.args.shared.now c.import.new.shared c.args.x c.args.p c.in-Ok.target c.line_of.result c.in-Ok.ensures.target
-    c.line_of.ensures c.in-Ok.ensures.made c.put.ensures
-
-pub returns-in-Ok-clause-frame : goal.returns-in-Ok-clause-frame
-returns-in-Ok-clause-frame c =
-    put_frame c.args.parts.now c.import.new.parts c.put.new.self c.args.p c.in-Ok.target
-    (node_of (region_slot (took (state_of c.args.parts.now) (entries_of (ahead_of c.args.shared.now))).region c.args.x)) c.line_of.result
-    c.in-Ok.ensures.made.nodes c.in-Ok.ensures.made.setup c.in-Ok.ensures.made.grey c.in-Ok.ensures.made.ordinal c.requires.ready.tied c.in-Ok.ensures.made.tied c.in-Ok.ensures.target c.put.ensures c.line_of.ensures
+pub returns : goal.returns
+returns c = record {
+  done = taking_done (C.Import c.args.x c.args.p) c.args.parts.now c.import_node.new.parts c.args.shared.now c.import_node.new.shared c.args.outcome.now c.args.outcome.now c.end.new.self c.import_node.result (c.import_node.result ∷ [])
+      c.end.ensures (line_alone c.args.outcome.now c.import_node.new.parts.cycle.ran c.import_node.result c.requires.asked.nothing.numbers c.requires.asked.nothing.calm)
+      c.steps_follow_the_history.ensures c.steps_leave_threads.ensures refl (λ n is. cc) c.requires.asked c.import_node.ensures.shared c.import_node.ensures.grown c.import_node.ensures.step
+      c.import_node.ensures.frame (λ runs. absurd (true≢false (sym runs ∙ c.requires.asked.nothing.calm))) refl (λ is told. cc);
+}
