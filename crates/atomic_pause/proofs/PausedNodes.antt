@@ -21,7 +21,7 @@ use Rattle.page_words.specs.Seat.{SeatView, IsView}
 use Rattle.weak_clearing.specs.Space.{SpaceView, IsSpaceOf}
 use Rattle.ephemerons.specs.Fixpoint.{ListsMarks}
 use Rattle.ephemerons.specs.Marking.{traced_count}
-use Rattle.prefinalizer_effects.specs.Prepared.{setup_of, IsPrepared}
+use Rattle.prefinalizer_effects.specs.Prepared.{setup_in_space, IsPrepared}
 use Rattle.prefinalizer_effects.specs.Nodes.{place_of, bodies_of, IsHeld, AreOfValid}
 use Rattle.prefinalizer_effects.specs.PlacesInWords.{kept_of}
 use Rattle.prefinalizer_effects.specs.Judgement.{nodes_after}
@@ -99,10 +99,10 @@ types_alone setup other nodes same typed =
       kinds_at ts ty = (get_or ts ty no_type).kinds
 
 pub prepared : (space : SpaceView) (types : List ObjectType) (callbacks : List ActionKind) (nodes : List Node) (root may : ℕ → Type 0) (v y : SeatView)
-    → AreOfValid (setup_of space types callbacks) nodes → v.types ≡ types → IsSpaceOf space v → v.dead ≡ [] → IsHeld nodes v → length nodes ≤ 1000000
+    → AreOfValid (setup_in_space space types callbacks) nodes → v.types ≡ types → IsSpaceOf space v → v.dead ≡ [] → IsHeld nodes v → length nodes ≤ 1000000
     → MarksReachable types root may v y → IsPrepared space types (both_cleared y) (nodes_after (kept_of (holds y.marked) nodes) nodes)
 prepared space types callbacks nodes root may v y valid known laid none held few marks =
-    let setup : Setup = setup_of space types callbacks in
+    let setup : Setup = setup_in_space space types callbacks in
     let kept : List Bool = kept_of (holds y.marked) nodes in
     let is : IsMarked setup nodes y = marked_is setup nodes root may v y valid known none held marks in
     record {
@@ -111,7 +111,7 @@ prepared space types callbacks nodes root may v y valid known laid none held few
       off = marks.off;
       held = held_after setup nodes y is;
       few = omega (arith, few, length-after kept nodes);
-      typed = types_alone setup (setup_of space types []) (nodes_after kept nodes) refl (typed_after setup kept nodes is.known.typed);
+      typed = types_alone setup (setup_in_space space types []) (nodes_after kept nodes) refl (typed_after setup kept nodes is.known.typed);
       named = all_named setup kept nodes is.known (none_dead nodes v held none);
       judged = judged_cleared y (judged_after types root may v y marks);
     }

@@ -18,7 +18,7 @@ ghost use Rattle.ephemerons.specs.Fixpoint.{IsUnrefused};
 ghost use Rattle.ephemerons.specs.Notes.{group_at, refusals_in};
 ghost use Rattle.prefinalizer_effects.specs.Nodes.{AreOfValid, IsHeld};
 ghost use Rattle.prefinalizer_effects.specs.PlacesInWords.{places_of};
-ghost use Rattle.prefinalizer_effects.specs.Prepared.{setup_of, IsPrepared};
+ghost use Rattle.prefinalizer_effects.specs.Prepared.{setup_in_space, IsPrepared};
 ghost use Rattle.atomic_pause.specs.Marking.{LooksEarlyAt};
 ghost use Rattle.atomic_pause.specs.Pausing.{NamePlaces, IsMayWithin, hits_in};
 ghost use Rattle.atomic_pause.specs.Pausing.{IsPaused, IsPlaceOfKept};
@@ -45,7 +45,7 @@ pub fn pause(parts: Parts, notes: &mut [Pairs], stack: &[u64], precise: bool) ->
     requires heap { IsSpaceOf parts.space.now parts.seat.now }
     requires types { parts.seat.now.types ≡ parts.types.now }
     requires valid { AreOfValid
-        (setup_of parts.space.now parts.types.now (kinds_of parts.callbacks.now))
+        (setup_in_space parts.space.now parts.types.now (kinds_of parts.callbacks.now))
         parts.nodes.now.value }
     requires held { IsHeld parts.nodes.now.value parts.seat.now }
     requires few { length parts.nodes.now.value ≤ 1000000 }

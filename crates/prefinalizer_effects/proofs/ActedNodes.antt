@@ -125,18 +125,18 @@ at_place place change keeps b = go (eqb b.place place) where
   go true = keeps b
   go false = (refl, refl)
 
-cleared_keeps : (types : List ObjectType) (field : ℕ) → KeepsExtents (words.cleared_at types field)
-cleared_keeps types field b = go (ltb field (words.field_count types b)) (words.kind_of_field types b field) where
-  go : (flag : Bool) (kind : Kind) → (let c : Body = cond flag (words.cleared_field kind b (words.word_of_field types b field)) b in (c.place ≡ b.place) × (c.size ≡ b.size))
+cleared_keeps : (types : List ObjectType) (field : ℕ) → KeepsExtents (words.body_cleared_at types field)
+cleared_keeps types field b = go (ltb field (words.body_field_count types b)) (words.body_field_kind types b field) where
+  go : (flag : Bool) (kind : Kind) → (let c : Body = cond flag (words.body_cleared_field kind b (words.body_field_word types b field)) b in (c.place ≡ b.place) × (c.size ≡ b.size))
   go true Strong = (refl, refl)
   go true Weak = (refl, refl)
   go true Pair = (refl, refl)
   go true Plain = (refl, refl)
   go false kind = (refl, refl)
 
-added_keeps : (types : List ObjectType) (field amount : ℕ) → KeepsExtents (words.added_at types field amount)
-added_keeps types field amount b = go (ltb field (words.field_count types b)) (words.kind_of_field types b field) where
-  go : (flag : Bool) (kind : Kind) → (let c : Body = cond flag (words.added_field kind b (words.word_of_field types b field) amount) b in (c.place ≡ b.place) × (c.size ≡ b.size))
+added_keeps : (types : List ObjectType) (field amount : ℕ) → KeepsExtents (words.body_added_at types field amount)
+added_keeps types field amount b = go (ltb field (words.body_field_count types b)) (words.body_field_kind types b field) where
+  go : (flag : Bool) (kind : Kind) → (let c : Body = cond flag (words.body_added_field kind b (words.body_field_word types b field) amount) b in (c.place ≡ b.place) × (c.size ≡ b.size))
   go true Strong = (refl, refl)
   go true Weak = (refl, refl)
   go true Pair = (refl, refl)
@@ -165,7 +165,7 @@ put_looked v w x same put = record {
   marked = ap (λ (z : SeatView). z.marked) same ∙ put.marked;
 }
 
-linked_put : (v : SeatView) (target : Option ℕ) (change : Body → Body) → KeepsExtents change → StayPut v (words.change_linked v target change)
+linked_put : (v : SeatView) (target : Option ℕ) (change : Body → Body) → KeepsExtents change → StayPut v (words.change_linked_body v target change)
 linked_put v None change keeps = record { heap = refl; types = refl; on = refl; extents = refl; judged = λ is. is; early = refl; marked = refl }
 linked_put v (Some place) change keeps = record {
   heap = refl;
@@ -177,7 +177,7 @@ linked_put v (Some place) change keeps = record {
   marked = refl;
 }
 
-pub acted_put : (v : SeatView) (dying : Body) (action : Action) → StayPut v (words.acted v dying action)
+pub acted_put : (v : SeatView) (dying : Body) (action : Action) → StayPut v (words.after_action v dying action)
 acted_put v dying A.Nothing = record { heap = refl; types = refl; on = refl; extents = refl; judged = λ is. is; early = refl; marked = refl }
-acted_put v dying (A.Clear link field) = linked_put v (words.linked v.types dying link) (words.cleared_at v.types field) (cleared_keeps v.types field)
-acted_put v dying (A.Add link field amount) = linked_put v (words.linked v.types dying link) (words.added_at v.types field amount) (added_keeps v.types field amount)
+acted_put v dying (A.Clear link field) = linked_put v (words.linked_place v.types dying link) (words.body_cleared_at v.types field) (cleared_keeps v.types field)
+acted_put v dying (A.Add link field amount) = linked_put v (words.linked_place v.types dying link) (words.body_added_at v.types field amount) (added_keeps v.types field amount)

@@ -10,7 +10,7 @@ use Rattle.type_table.specs.Types.{kinds_of, IsFieldAt}
 use Rattle.marker_core.specs.declared.states.Body.{Body}
 use Rattle.page_words.specs.Seat.{SeatView, with_bodies}
 use Rattle.member_fields.specs.Words.{IsWordIn, with_word_in, written, pair_written}
-use Rattle.prefinalizer_effects.specs.Acting.{extra_in, field_count, kind_of_field, word_of_field, cleared_field, cleared_at, added_field, added_at, changed_at}
+use Rattle.prefinalizer_effects.specs.Acting.{extra_in, body_field_count, body_field_kind, body_field_word, body_cleared_field, body_cleared_at, body_added_field, body_added_at, changed_at}
 
 -- ---- lists of bodies
 
@@ -83,65 +83,65 @@ FoundAs v place field kind word =
     (b : Body) → Contains v.bodies b → b.place ≡ place → IsFieldAt (kinds_of v.types b.ty) (extra_in v.types b) field (kind, word)
 
 module _ (types : List ObjectType) (field : ℕ) (b : Body) where
-  pub cleared_there : (kind : Kind) (word : ℕ) → IsFieldAt (kinds_of types b.ty) (extra_in types b) field (kind, word) → cleared_field kind b (word - 2) ≡ cleared_at types field b
+  pub cleared_there : (kind : Kind) (word : ℕ) → IsFieldAt (kinds_of types b.ty) (extra_in types b) field (kind, word) → body_cleared_field kind b (word - 2) ≡ body_cleared_at types field b
   cleared_there kind word found =
-      ap (λ k. cleared_field k b (word - 2)) found.kind ∙ ap (λ n. cleared_field (kind_of_field types b field) b (n - 2)) found.offset
-      ∙ sym (cond-true (ltb field (field_count types b)) (cleared_field (kind_of_field types b field) b (word_of_field types b field)) b (lt-ltb field (field_count types b) found.there))
+      ap (λ k. body_cleared_field k b (word - 2)) found.kind ∙ ap (λ n. body_cleared_field (body_field_kind types b field) b (n - 2)) found.offset
+      ∙ sym (cond-true (ltb field (body_field_count types b)) (body_cleared_field (body_field_kind types b field) b (body_field_word types b field)) b (lt-ltb field (body_field_count types b) found.there))
 
   pub added_there : (kind : Kind) (word amount : ℕ) → IsFieldAt (kinds_of types b.ty) (extra_in types b) field (kind, word)
-      → added_field kind b (word - 2) amount ≡ added_at types field amount b
+      → body_added_field kind b (word - 2) amount ≡ body_added_at types field amount b
   added_there kind word amount found =
-      ap (λ k. added_field k b (word - 2) amount) found.kind ∙ ap (λ n. added_field (kind_of_field types b field) b (n - 2) amount) found.offset
-      ∙ sym (cond-true (ltb field (field_count types b)) (added_field (kind_of_field types b field) b (word_of_field types b field) amount) b (lt-ltb field (field_count types b) found.there))
+      ap (λ k. body_added_field k b (word - 2) amount) found.kind ∙ ap (λ n. body_added_field (body_field_kind types b field) b (n - 2) amount) found.offset
+      ∙ sym (cond-true (ltb field (body_field_count types b)) (body_added_field (body_field_kind types b field) b (body_field_word types b field) amount) b (lt-ltb field (body_field_count types b) found.there))
 
-  pub cleared_past : field_count types b ≤ field → cleared_at types field b ≡ b
+  pub cleared_past : body_field_count types b ≤ field → body_cleared_at types field b ≡ b
   cleared_past past =
-      cond-false (ltb field (field_count types b)) (cleared_field (kind_of_field types b field) b (word_of_field types b field)) b (le-ltb field (field_count types b) past)
+      cond-false (ltb field (body_field_count types b)) (body_cleared_field (body_field_kind types b field) b (body_field_word types b field)) b (le-ltb field (body_field_count types b) past)
 
-  pub added_past : (amount : ℕ) → field_count types b ≤ field → added_at types field amount b ≡ b
+  pub added_past : (amount : ℕ) → body_field_count types b ≤ field → body_added_at types field amount b ≡ b
   added_past amount past =
-      cond-false (ltb field (field_count types b)) (added_field (kind_of_field types b field) b (word_of_field types b field) amount) b (le-ltb field (field_count types b) past)
+      cond-false (ltb field (body_field_count types b)) (body_added_field (body_field_kind types b field) b (body_field_word types b field) amount) b (le-ltb field (body_field_count types b) past)
 
 module _ (v : SeatView) (place field word : ℕ) where
-  pub strong_cleared : FoundAs v place field Strong word → written v place word 0 ≡ changed_at v place (cleared_at v.types field)
+  pub strong_cleared : FoundAs v place field Strong word → written v place word 0 ≡ changed_at v place (body_cleared_at v.types field)
   strong_cleared found =
-      changed_same v place (with_word (word - 2) 0) (cleared_at v.types field) (λ b there at. cleared_there v.types field b Strong word (found b there at))
+      changed_same v place (with_word (word - 2) 0) (body_cleared_at v.types field) (λ b there at. cleared_there v.types field b Strong word (found b there at))
 
-  pub weak_cleared : FoundAs v place field Weak word → written v place word 0 ≡ changed_at v place (cleared_at v.types field)
+  pub weak_cleared : FoundAs v place field Weak word → written v place word 0 ≡ changed_at v place (body_cleared_at v.types field)
   weak_cleared found =
-      changed_same v place (with_word (word - 2) 0) (cleared_at v.types field) (λ b there at. cleared_there v.types field b Weak word (found b there at))
+      changed_same v place (with_word (word - 2) 0) (body_cleared_at v.types field) (λ b there at. cleared_there v.types field b Weak word (found b there at))
 
-  pub pair_cleared : FoundAs v place field Pair word → pair_written v place word 0 0 ≡ changed_at v place (cleared_at v.types field)
+  pub pair_cleared : FoundAs v place field Pair word → pair_written v place word 0 0 ≡ changed_at v place (body_cleared_at v.types field)
   pair_cleared found =
       written_twice v place (word + 1) word 0 0
-      ∙ changed_same v place (λ b. with_word (word - 2) 0 (with_word (word + 1 - 2) 0 b)) (cleared_at v.types field)
+      ∙ changed_same v place (λ b. with_word (word - 2) 0 (with_word (word + 1 - 2) 0 b)) (body_cleared_at v.types field)
       (λ b there at. both b (found b there at) ∙ cleared_there v.types field b Pair word (found b there at)) where
         both : (b : Body) → IsFieldAt (kinds_of v.types b.ty) (extra_in v.types b) field (Pair, word)
-            → with_word (word - 2) 0 (with_word (word + 1 - 2) 0 b) ≡ cleared_field Pair b (word - 2)
+            → with_word (word - 2) 0 (with_word (word + 1 - 2) 0 b) ≡ body_cleared_field Pair b (word - 2)
         both b found =
             let next : word + 1 - 2 ≡ word - 2 + 1 = omega (arith, found.offset) in
             let apart : word - 2 + 1 ≡ word - 2 → ⊥ = λ e. omega arith in
             ap (λ i. with_word (word - 2) 0 (with_word i 0 b)) next
             ∙ ap (λ fields. record b { fields = fields }) (set_comm b.fields (word - 2 + 1) (word - 2) 0 0 apart)
 
-  pub plain_kept : FoundAs v place field Plain word → v ≡ changed_at v place (cleared_at v.types field)
-  plain_kept found = changed_none v place (cleared_at v.types field) (λ b there at. sym (cleared_there v.types field b Plain word (found b there at)))
+  pub plain_kept : FoundAs v place field Plain word → v ≡ changed_at v place (body_cleared_at v.types field)
+  plain_kept found = changed_none v place (body_cleared_at v.types field) (λ b there at. sym (cleared_there v.types field b Plain word (found b there at)))
 
   pub plain_added : (before amount : ℕ) → IsWordIn v place word before → FoundAs v place field Plain word
-      → written v place word ((before + amount) % 2 ^ 64) ≡ changed_at v place (added_at v.types field amount)
+      → written v place word ((before + amount) % 2 ^ 64) ≡ changed_at v place (body_added_at v.types field amount)
   plain_added before amount is found =
-      changed_same v place (with_word (word - 2) ((before + amount) % 2 ^ 64)) (added_at v.types field amount)
+      changed_same v place (with_word (word - 2) ((before + amount) % 2 ^ 64)) (body_added_at v.types field amount)
       (λ b there at. ap (λ w. with_word (word - 2) ((w + amount) % 2 ^ 64) b) (is b there at) ∙ added_there v.types field b Plain word amount (found b there at))
 
 -- a field of another kind isn't added to
-other_added : (kind : Kind) (b : Body) (i amount : ℕ) → (kind ≡ Plain → ⊥) → added_field kind b i amount ≡ b
+other_added : (kind : Kind) (b : Body) (i amount : ℕ) → (kind ≡ Plain → ⊥) → body_added_field kind b i amount ≡ b
 other_added Strong b i amount other = refl
 other_added Weak b i amount other = refl
 other_added Pair b i amount other = refl
 other_added Plain b i amount other = absurd (other refl)
 
 pub other_kept : (v : SeatView) (place field : ℕ) (kind : Kind) (word amount : ℕ) → (kind ≡ Plain → ⊥) → FoundAs v place field kind word
-    → v ≡ changed_at v place (added_at v.types field amount)
+    → v ≡ changed_at v place (body_added_at v.types field amount)
 other_kept v place field kind word amount other found =
-    changed_none v place (added_at v.types field amount)
+    changed_none v place (body_added_at v.types field amount)
     (λ b there at. sym (added_there v.types field b kind word amount (found b there at)) ∙ other_added kind b (word - 2) amount other)

@@ -16,7 +16,7 @@ use Rattle.marker_core.specs.Bodies.{IsReference}
 use Rattle.marker_core.specs.declared.states.Body.{Body}
 use Rattle.page_words.specs.Bodies.{kind_in}
 use Rattle.page_words.specs.Seat.{SeatView}
-use Rattle.prefinalizer_effects.specs.Acting.{IsTyped, AreTyped, AreLinked, field_count, kind_of_field, word_of_field, cleared_field, cleared_at, added_field, added_at, with_field_word, changed_at}
+use Rattle.prefinalizer_effects.specs.Acting.{IsTypedBody, BodiesAreTyped, AreLinked, body_field_count, body_field_kind, body_field_word, body_cleared_field, body_cleared_at, body_added_field, body_added_at, with_field_word, changed_at}
 use Rattle.prefinalizer_effects.proofs.BodiesChanged.{here}
 use Rattle.prefinalizer_effects.proofs.FieldWords.{some_words}
 
@@ -63,31 +63,31 @@ module _ (types : List ObjectType) (bodies : List Body) where
         (λ e. true≢false (sym plain ∙ ap (λ k. is_plain (kind_in types b k)) (sym e) ∙ ap is_plain strong)));
   }
 
-  cleared_keeps : (kind : Kind) (b : Body) (i : ℕ) → KeepsLinks types bodies b (cleared_field kind b i)
+  cleared_keeps : (kind : Kind) (b : Body) (i : ℕ) → KeepsLinks types bodies b (body_cleared_field kind b i)
   cleared_keeps Strong b i = reference_keeps b i 0 (inl refl)
   cleared_keeps Weak b i = reference_keeps b i 0 (inl refl)
   cleared_keeps Pair b i = record { place = refl; ty = refl; size = refl; strong = λ j strong. set_nulls bodies b.fields i (i + 1) j }
   cleared_keeps Plain b i = keeps_same types bodies b
 
-  pub clearing_keeps : (field : ℕ) (b : Body) → KeepsLinks types bodies b (cleared_at types field b)
+  pub clearing_keeps : (field : ℕ) (b : Body) → KeepsLinks types bodies b (body_cleared_at types field b)
   clearing_keeps field b =
-      cond_both (ltb field (field_count types b)) (cleared_field (kind_of_field types b field) b (word_of_field types b field)) b (KeepsLinks types bodies b)
-      (λ _. cleared_keeps (kind_of_field types b field) b (word_of_field types b field)) (λ _. keeps_same types bodies b)
+      cond_both (ltb field (body_field_count types b)) (body_cleared_field (body_field_kind types b field) b (body_field_word types b field)) b (KeepsLinks types bodies b)
+      (λ _. cleared_keeps (body_field_kind types b field) b (body_field_word types b field)) (λ _. keeps_same types bodies b)
 
   added_keeps : (kind : Kind) (b : Body) (i amount : ℕ) → (kind ≡ Plain → kind_in types b i ≡ Plain)
-      → KeepsLinks types bodies b (added_field kind b i amount)
+      → KeepsLinks types bodies b (body_added_field kind b i amount)
   added_keeps Strong b i amount is = keeps_same types bodies b
   added_keeps Weak b i amount is = keeps_same types bodies b
   added_keeps Pair b i amount is = keeps_same types bodies b
   added_keeps Plain b i amount is = plain_keeps b i ((get_or b.fields i 0 + amount) % 2 ^ 64) (ap is_plain (is refl))
 
-  pub adding_keeps : FieldsStandApart → (field amount : ℕ) (b : Body) → KeepsLinks types bodies b (added_at types field amount b)
+  pub adding_keeps : FieldsStandApart → (field amount : ℕ) (b : Body) → KeepsLinks types bodies b (body_added_at types field amount b)
   adding_keeps law field amount b =
       let kinds : List Kind = kinds_of types b.ty in
-      let kind : kind_in types b (word_of_field types b field) ≡ kind_of kinds field =
+      let kind : kind_in types b (body_field_word types b field) ≡ kind_of kinds field =
       law.kind kinds field (offset_of kinds field) (record { first = omega arith; last = omega (arith, some_words (kind_of kinds field)) }) in
-      cond_both (ltb field (field_count types b)) (added_field (kind_of_field types b field) b (word_of_field types b field) amount) b (KeepsLinks types bodies b)
-      (λ _. added_keeps (kind_of_field types b field) b (word_of_field types b field) amount (λ plain. kind ∙ plain)) (λ _. keeps_same types bodies b)
+      cond_both (ltb field (body_field_count types b)) (body_added_field (body_field_kind types b field) b (body_field_word types b field) amount) b (KeepsLinks types bodies b)
+      (λ _. added_keeps (body_field_kind types b field) b (body_field_word types b field) amount (λ plain. kind ∙ plain)) (λ _. keeps_same types bodies b)
 
 -- ---- all bodies
 
@@ -105,8 +105,8 @@ module _ (v : SeatView) (place : ℕ) (f : Body → Body) (keeps : EachKeeps v p
       let inside : Contains v.bodies b = Contains-get_or v.bodies k d l in
       cond_both (eqb b.place place) (f b) b P (λ is. on b inside (eqb-true b.place place is)) (λ _. off b inside)))) there
 
-  pub typed_kept : AreTyped v → AreTyped (changed_at v place f)
-  typed_kept typed = each_after (IsTyped v.types) typed (λ b there at.
+  pub typed_kept : BodiesAreTyped v → BodiesAreTyped (changed_at v place f)
+  typed_kept typed = each_after (IsTypedBody v.types) typed (λ b there at.
       let kept : KeepsLinks v.types v.bodies b (f b) = keeps b there at in
       record {
         known = omega (arith, kept.ty, (typed b there).known);

@@ -21,7 +21,7 @@ use Rattle.page_words.specs.Roles.{kind_lists}
 use Rattle.page_words.specs.Seat.{SeatView, IsView}
 use Rattle.nodes_in_words.specs.Space.{IsHeaderOf}
 use Rattle.member_fields.specs.Words.{HasWord, HasPair, IsWordIn}
-use Rattle.prefinalizer_effects.specs.Acting.{IsTyped, AreTyped, AreLinked, extra_in, field_count}
+use Rattle.prefinalizer_effects.specs.Acting.{IsTypedBody, BodiesAreTyped, AreLinked, extra_in, body_field_count}
 use Rattle.prefinalizer_effects.specs.Places.{IsFound, HasFoundWord, HasFoundPair}
 
 -- ---- what the header tells
@@ -39,7 +39,7 @@ extra_told v types b header none same is size =
 -- what the table tells of the field, for this body
 pub field_told : (v : SeatView) (types : List ObjectType) (b : Body) (ty extra field : ℕ) (found : Option (Kind × ℕ)) → types ≡ v.types → ty ≡ b.ty
     → extra ≡ extra_in v.types b → MatchOption found (count_with (kinds_of types ty) extra ≤ field) (IsFieldAt (kinds_of types ty) extra field)
-    → MatchOption found (field_count v.types b ≤ field) (IsFieldAt (kinds_of v.types b.ty) (extra_in v.types b) field)
+    → MatchOption found (body_field_count v.types b ≤ field) (IsFieldAt (kinds_of v.types b.ty) (extra_in v.types b) field)
 field_told v types b ty extra field found same type extras is =
     let told : List Kind → ℕ → Type 0 = λ kinds n. MatchOption found (count_with kinds n ≤ field) (IsFieldAt kinds n field) in
     subst (told (kinds_of v.types b.ty)) extras
@@ -69,7 +69,7 @@ word_below kinds extra field low = elim (cases_lt field (length kinds)) [
 ]
 
 pub found_word : (v : SeatView) (place field : ℕ) (b : Body) (t : Kind × ℕ) (is_so : Kind → Bool) → FieldsStandApart → Contains v.bodies b → b.place ≡ place
-    → IsTyped v.types b → IsFieldAt (kinds_of v.types b.ty) (extra_in v.types b) field t → is_so t.0 ≡ true → HasWord is_so v place t.1
+    → IsTypedBody v.types b → IsFieldAt (kinds_of v.types b.ty) (extra_in v.types b) field t → is_so t.0 ≡ true → HasWord is_so v place t.1
 found_word v place field b t is_so law there at typed found so =
     let kinds : List Kind = kinds_of v.types b.ty in
     let kind : kind_in v.types b (t.1 - 2) ≡ kind_of kinds field =
@@ -83,7 +83,7 @@ found_word v place field b t is_so law there at typed found so =
       kind = ap is_so (kind ∙ sym found.kind) ∙ so;
     }
 
-pub found_pair : (v : SeatView) (place field : ℕ) (b : Body) (t : Kind × ℕ) → FieldsStandApart → Contains v.bodies b → b.place ≡ place → IsTyped v.types b
+pub found_pair : (v : SeatView) (place field : ℕ) (b : Body) (t : Kind × ℕ) → FieldsStandApart → Contains v.bodies b → b.place ≡ place → IsTypedBody v.types b
     → IsFieldAt (kinds_of v.types b.ty) (extra_in v.types b) field t → t.0 ≡ Pair → HasPair v place t.1
 found_pair v place field b t law there at typed found pair =
     let kinds : List Kind = kinds_of v.types b.ty in
@@ -111,7 +111,7 @@ size_told v types b header none same is size =
     (let told = size ∙ ap (λ kinds. size_with kinds 0) (kinds_told v types b header same is) in omega (arith, told))
 
 -- the body has a word for each word of its declared fields
-pub long_fields : (v : SeatView) (b : Body) → IsView v → Contains v.bodies b → IsTyped v.types b → field_words (kinds_of v.types b.ty) ≤ length b.fields
+pub long_fields : (v : SeatView) (b : Body) → IsView v → Contains v.bodies b → IsTypedBody v.types b → field_words (kinds_of v.types b.ty) ≤ length b.fields
 long_fields v b view there typed =
     let whole : IsWhole v.count (kind_lists v.types) b = whole_body v view b there in
     omega (arith, whole.fields, typed.whole)
@@ -125,22 +125,22 @@ fields_inside v b view there =
 
 -- the body has all words that its type asks for
 pub size_least : (v : SeatView) (types : List ObjectType) (b : Body) (header : Header) (none : ℕ) → types ≡ v.types → IsHeaderOf v b header
-    → none ≡ size_with (kinds_of types header.ty) 0 → IsTyped v.types b → none ≤ header.size
+    → none ≡ size_with (kinds_of types header.ty) 0 → IsTypedBody v.types b → none ≤ header.size
 size_least v types b header none same is size typed =
     let least : none ≡ size_with (kinds_of v.types b.ty) 0 =
     size ∙ ap (λ ts. size_with (kinds_of ts header.ty) 0) same ∙ ap (λ ty. size_with (kinds_of v.types ty) 0) (type_told v b header is) in
     omega (arith, least, typed.whole, is.size)
 
-pub type_known : (v : SeatView) (types : List ObjectType) (b : Body) (header : Header) → types ≡ v.types → IsHeaderOf v b header → IsTyped v.types b
+pub type_known : (v : SeatView) (types : List ObjectType) (b : Body) (header : Header) → types ≡ v.types → IsHeaderOf v b header → IsTypedBody v.types b
     → header.ty < length types
 type_known v types b header same is typed = omega (arith, typed.known, type_told v b header is, ap length same)
 
-pub found_words : (v : SeatView) (place field : ℕ) (found : Option (Kind × ℕ)) → FieldsStandApart → AreTyped v → IsPlace v.bodies place → IsFound v place field found
+pub found_words : (v : SeatView) (place field : ℕ) (found : Option (Kind × ℕ)) → FieldsStandApart → BodiesAreTyped v → IsPlace v.bodies place → IsFound v place field found
     → HasFoundWord v place found
 found_words v place field None law typed at is = tt
 found_words v place field (Some t) law typed (b, there, at) is = λ is_so so. found_word v place field b t is_so law there at (typed b there) (is b there at) so
 
-pub found_pairs : (v : SeatView) (place field : ℕ) (found : Option (Kind × ℕ)) → FieldsStandApart → AreTyped v → IsPlace v.bodies place → IsFound v place field found
+pub found_pairs : (v : SeatView) (place field : ℕ) (found : Option (Kind × ℕ)) → FieldsStandApart → BodiesAreTyped v → IsPlace v.bodies place → IsFound v place field found
     → HasFoundPair v place found
 found_pairs v place field None law typed at is = tt
 found_pairs v place field (Some t) law typed (b, there, at) is = λ pair. found_pair v place field b t law there at (typed b there) (is b there at) pair

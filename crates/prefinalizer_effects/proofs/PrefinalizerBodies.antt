@@ -82,7 +82,7 @@ module _ (nodes : List Node) (v : SeatView) (view : IsView v) (held : IsHeld nod
   held_linked : (link : Option ℕ) (f : Body → Body) (change : Node → Node) → ((m : ℕ) → link ≡ Some m → IsThere nodes m)
       → ((x : Node) → ((change x).place ≡ x.place) × ((change x).life ≡ x.life))
       → ((m j : ℕ) → IsThere nodes m → f (body_of (place_of nodes) j (node_at nodes m)) ≡ body_of (place_of nodes) j (change (node_at nodes m)))
-      → IsHeld (graph.change_linked nodes link change) (bodies.change_linked v (option_map (place_of nodes) link) f)
+      → IsHeld (graph.change_linked nodes link change) (bodies.change_linked_body v (option_map (place_of nodes) link) f)
   held_linked None f change names head same = held
   held_linked (Some m) f change names head same =
       held_changed m f (change (node_at nodes m)) (names m refl) (head (node_at nodes m)).0 (head (node_at nodes m)).1 (λ j. same m j (names m refl))
@@ -110,21 +110,21 @@ added_head f amount x = by_kind (ltb f (fields.field_count x)) (fields.kind_of_f
 pub held_acted : (setup : Setup) (nodes : List Node) (v : SeatView) (n : ℕ) (action : Action) → IsView v → IsHeld nodes v → v.types ≡ setup.types
     → ((m : ℕ) → IsThere nodes m → IsTyped setup (length nodes) (node_at nodes m)) → IsThere nodes n
     → ((link m : ℕ) → graph.linked (node_at nodes n) link ≡ Some m → IsThere nodes m)
-    → IsHeld (graph.acted nodes n action) (bodies.acted v (body_of (place_of nodes) n (node_at nodes n)) action)
+    → IsHeld (graph.acted nodes n action) (bodies.after_action v (body_of (place_of nodes) n (node_at nodes n)) action)
 held_acted setup nodes v n A.Nothing view held known typed there names = held
 held_acted setup nodes v n (A.Clear link field) view held known typed there names =
     let place : ℕ → ℕ = place_of nodes in
     let own : Body = body_of place n (node_at nodes n) in
-    let named : bodies.linked v.types own link ≡ option_map place (graph.linked (node_at nodes n) link) =
-    ap (λ types. bodies.linked types own link) known ∙ links_body setup (length nodes) place n (node_at nodes n) (typed n there) link in
-    subst (λ m. IsHeld (graph.acted nodes n (A.Clear link field)) (bodies.change_linked v m (bodies.cleared_at v.types field))) (sym named)
-    (held_linked nodes v view held (graph.linked (node_at nodes n) link) (bodies.cleared_at v.types field) (λ x. graph.cleared_at x field) (names link) (cleared_head field)
-    (λ m j present. ap (λ types. bodies.cleared_at types field (body_of place j (node_at nodes m))) known ∙ cleared_body setup (length nodes) place j (node_at nodes m) (typed m present) field))
+    let named : bodies.linked_place v.types own link ≡ option_map place (graph.linked (node_at nodes n) link) =
+    ap (λ types. bodies.linked_place types own link) known ∙ links_body setup (length nodes) place n (node_at nodes n) (typed n there) link in
+    subst (λ m. IsHeld (graph.acted nodes n (A.Clear link field)) (bodies.change_linked_body v m (bodies.body_cleared_at v.types field))) (sym named)
+    (held_linked nodes v view held (graph.linked (node_at nodes n) link) (bodies.body_cleared_at v.types field) (λ x. graph.cleared_at x field) (names link) (cleared_head field)
+    (λ m j present. ap (λ types. bodies.body_cleared_at types field (body_of place j (node_at nodes m))) known ∙ cleared_body setup (length nodes) place j (node_at nodes m) (typed m present) field))
 held_acted setup nodes v n (A.Add link field amount) view held known typed there names =
     let place : ℕ → ℕ = place_of nodes in
     let own : Body = body_of place n (node_at nodes n) in
-    let named : bodies.linked v.types own link ≡ option_map place (graph.linked (node_at nodes n) link) =
-    ap (λ types. bodies.linked types own link) known ∙ links_body setup (length nodes) place n (node_at nodes n) (typed n there) link in
-    subst (λ m. IsHeld (graph.acted nodes n (A.Add link field amount)) (bodies.change_linked v m (bodies.added_at v.types field amount))) (sym named)
-    (held_linked nodes v view held (graph.linked (node_at nodes n) link) (bodies.added_at v.types field amount) (λ x. graph.added_at x field amount) (names link) (added_head field amount)
-    (λ m j present. ap (λ types. bodies.added_at types field amount (body_of place j (node_at nodes m))) known ∙ added_body setup (length nodes) place j (node_at nodes m) (typed m present) field amount))
+    let named : bodies.linked_place v.types own link ≡ option_map place (graph.linked (node_at nodes n) link) =
+    ap (λ types. bodies.linked_place types own link) known ∙ links_body setup (length nodes) place n (node_at nodes n) (typed n there) link in
+    subst (λ m. IsHeld (graph.acted nodes n (A.Add link field amount)) (bodies.change_linked_body v m (bodies.body_added_at v.types field amount))) (sym named)
+    (held_linked nodes v view held (graph.linked (node_at nodes n) link) (bodies.body_added_at v.types field amount) (λ x. graph.added_at x field amount) (names link) (added_head field amount)
+    (λ m j present. ap (λ types. bodies.body_added_at types field amount (body_of place j (node_at nodes m))) known ∙ added_body setup (length nodes) place j (node_at nodes m) (typed m present) field amount))

@@ -30,7 +30,7 @@ field_written place k i x node =
     ap (made (size_of node)) (sym (map-set (word_of place) node.object.values i x))
     ∙ ap (λ n. made (2 + n) (map (word_of place) (set node.object.values i x))) (sym (length-set node.object.values i x))
 
-cleared_kind : (place : ℕ → ℕ) (k i : ℕ) (kind : Kind) (node : Node) → bodies.cleared_field kind (body_of place k node) i ≡ body_of place k (graph.cleared_field kind node i)
+cleared_kind : (place : ℕ → ℕ) (k i : ℕ) (kind : Kind) (node : Node) → bodies.body_cleared_field kind (body_of place k node) i ≡ body_of place k (graph.cleared_field kind node i)
 cleared_kind place k i Strong node = field_written place k i Null node
 cleared_kind place k i Weak node = field_written place k i Null node
 cleared_kind place k i Pair node =
@@ -43,7 +43,7 @@ added_word place (Ref n) amount is = absurd is
 added_word place (Word w) amount is = refl
 
 added_kind : (place : ℕ → ℕ) (k i amount : ℕ) (kind : Kind) (node : Node) → (kind ≡ Plain → IsPlainWord (value_at node i))
-    → bodies.added_field kind (body_of place k node) i amount ≡ body_of place k (graph.added_field kind node i amount)
+    → bodies.body_added_field kind (body_of place k node) i amount ≡ body_of place k (graph.added_field kind node i amount)
 added_kind place k i amount Strong node is = refl
 added_kind place k i amount Weak node is = refl
 added_kind place k i amount Pair node is = refl
@@ -62,22 +62,22 @@ module _ (setup : Setup) (bound : ℕ) (place : ℕ → ℕ) (k : ℕ) (node : N
   count_same kinds is = omega (arith, typed.count, ap length is, ap field_words is)
 
   -- the body has as many fields
-  pub counts_fields : bodies.field_count setup.types own ≡ fields.field_count node
+  pub counts_fields : bodies.body_field_count setup.types own ≡ fields.field_count node
   counts_fields = count_same (kinds_of setup.types node.object.ty) typed.kinds_are
 
-  kind_same : (f : ℕ) → bodies.kind_of_field setup.types own f ≡ fields.kind_of_field node.object f
+  kind_same : (f : ℕ) → bodies.body_field_kind setup.types own f ≡ fields.kind_of_field node.object f
   kind_same f = ap (λ (kinds : List Kind). get_or kinds f Plain) (sym typed.kinds_are)
 
-  word_same : (f : ℕ) → bodies.word_of_field setup.types own f ≡ fields.word_of_field node.object f
+  word_same : (f : ℕ) → bodies.body_field_word setup.types own f ≡ fields.word_of_field node.object f
   word_same f =
       ap (λ (kinds : List Kind). 2 + (field_words (take f kinds) + (f - length kinds)) - 2) (sym typed.kinds_are)
       ∙ (let same : 2 + fields.word_of_field node.object f - 2 ≡ fields.word_of_field node.object f = omega arith in same)
 
-  pub cleared_body : (f : ℕ) → bodies.cleared_at setup.types f own ≡ body_of place k (graph.cleared_at node f)
+  pub cleared_body : (f : ℕ) → bodies.body_cleared_at setup.types f own ≡ body_of place k (graph.cleared_at node f)
   cleared_body f =
-      ap (λ n. cond (ltb f n) (bodies.cleared_field (bodies.kind_of_field setup.types own f) own (bodies.word_of_field setup.types own f)) own) counts_fields
-      ∙ ap (λ kind. cond (ltb f (fields.field_count node)) (bodies.cleared_field kind own (bodies.word_of_field setup.types own f)) own) (kind_same f)
-      ∙ ap (λ i. cond (ltb f (fields.field_count node)) (bodies.cleared_field (fields.kind_of_field node.object f) own i) own) (word_same f)
+      ap (λ n. cond (ltb f n) (bodies.body_cleared_field (bodies.body_field_kind setup.types own f) own (bodies.body_field_word setup.types own f)) own) counts_fields
+      ∙ ap (λ kind. cond (ltb f (fields.field_count node)) (bodies.body_cleared_field kind own (bodies.body_field_word setup.types own f)) own) (kind_same f)
+      ∙ ap (λ i. cond (ltb f (fields.field_count node)) (bodies.body_cleared_field (fields.kind_of_field node.object f) own i) own) (word_same f)
       ∙ ap (λ b. cond (ltb f (fields.field_count node)) b own) (cleared_kind place k (fields.word_of_field node.object f) (fields.kind_of_field node.object f) node)
       ∙ sym (cond-body (ltb f (fields.field_count node)) (graph.cleared_field (fields.kind_of_field node.object f) node (fields.word_of_field node.object f))) where
         cond-body : (t : Bool) (y : Node) → body_of place k (cond t y node) ≡ cond t (body_of place k y) own
@@ -94,25 +94,25 @@ module _ (setup : Setup) (bound : ℕ) (place : ℕ → ℕ) (k : ℕ) (node : N
       subst (λ kind. IsOfKind bound kind (value_at node (fields.word_of_field node.object f))) plain
       (held_kind f (omega (arith, typed.count, word_below node.object.kinds node.object.extra f there)))
 
-  pub added_body : (f amount : ℕ) → bodies.added_at setup.types f amount own ≡ body_of place k (graph.added_at node f amount)
+  pub added_body : (f amount : ℕ) → bodies.body_added_at setup.types f amount own ≡ body_of place k (graph.added_at node f amount)
   added_body f amount =
-      ap (λ n. cond (ltb f n) (bodies.added_field (bodies.kind_of_field setup.types own f) own (bodies.word_of_field setup.types own f) amount) own) counts_fields
-      ∙ ap (λ kind. cond (ltb f (fields.field_count node)) (bodies.added_field kind own (bodies.word_of_field setup.types own f) amount) own) (kind_same f)
-      ∙ ap (λ i. cond (ltb f (fields.field_count node)) (bodies.added_field (fields.kind_of_field node.object f) own i amount) own) (word_same f)
+      ap (λ n. cond (ltb f n) (bodies.body_added_field (bodies.body_field_kind setup.types own f) own (bodies.body_field_word setup.types own f) amount) own) counts_fields
+      ∙ ap (λ kind. cond (ltb f (fields.field_count node)) (bodies.body_added_field kind own (bodies.body_field_word setup.types own f) amount) own) (kind_same f)
+      ∙ ap (λ i. cond (ltb f (fields.field_count node)) (bodies.body_added_field (fields.kind_of_field node.object f) own i amount) own) (word_same f)
       ∙ elim (cases_Bool (ltb f (fields.field_count node))) [
         | inl low ↦
             (let there : f < fields.field_count node = ltb-true f (fields.field_count node) low in
-            ap (λ t. cond t (bodies.added_field (fields.kind_of_field node.object f) own (fields.word_of_field node.object f) amount) own) low
+            ap (λ t. cond t (bodies.body_added_field (fields.kind_of_field node.object f) own (fields.word_of_field node.object f) amount) own) low
             ∙ added_kind place k (fields.word_of_field node.object f) amount (fields.kind_of_field node.object f) node (plain_held f there)
             ∙ ap (λ t. body_of place k (cond t (graph.added_field (fields.kind_of_field node.object f) node (fields.word_of_field node.object f) amount) node)) (sym low))
         | inr past ↦
-            ap (λ t. cond t (bodies.added_field (fields.kind_of_field node.object f) own (fields.word_of_field node.object f) amount) own) past
+            ap (λ t. cond t (bodies.body_added_field (fields.kind_of_field node.object f) own (fields.word_of_field node.object f) amount) own) past
             ∙ ap (λ t. body_of place k (cond t (graph.added_field (fields.kind_of_field node.object f) node (fields.word_of_field node.object f) amount) node)) (sym past)
       ]
 
-  links_kind : (kind : Kind) (x : Value) → (kind ≡ Strong → IsReferenceBelow bound x) → bodies.linked_by kind (word_of place x) ≡ option_map place (graph.linked_by kind x)
+  links_kind : (kind : Kind) (x : Value) → (kind ≡ Strong → IsReferenceBelow bound x) → bodies.place_linked_by kind (word_of place x) ≡ option_map place (graph.linked_by kind x)
   links_kind Strong Null is = refl
-  links_kind Strong (Ref m) is = (let one : place m + 1 ≡ suc (place m) = omega arith in ap bodies.place_named one)
+  links_kind Strong (Ref m) is = (let one : place m + 1 ≡ suc (place m) = omega arith in ap bodies.place_referred_to one)
   links_kind Strong (Word w) is = absurd (is refl)
   links_kind Weak x is = refl
   links_kind Pair x is = refl
@@ -125,9 +125,9 @@ module _ (setup : Setup) (bound : ℕ) (place : ℕ → ℕ) (k : ℕ) (node : N
   ]
 
   -- the body's field names the place of what the node's names
-  pub links_body : (link : ℕ) → bodies.linked setup.types own link ≡ option_map place (graph.linked node link)
+  pub links_body : (link : ℕ) → bodies.linked_place setup.types own link ≡ option_map place (graph.linked node link)
   links_body link =
-      ap (λ kind. bodies.linked_by kind (get_or own.fields (bodies.word_of_field setup.types own link) 0)) (kind_same link)
-      ∙ ap (λ i. bodies.linked_by (fields.kind_of_field node.object link) (get_or own.fields i 0)) (word_same link)
-      ∙ ap (bodies.linked_by (fields.kind_of_field node.object link)) (words_default place node.object.values (fields.word_of_field node.object link))
+      ap (λ kind. bodies.place_linked_by kind (get_or own.fields (bodies.body_field_word setup.types own link) 0)) (kind_same link)
+      ∙ ap (λ i. bodies.place_linked_by (fields.kind_of_field node.object link) (get_or own.fields i 0)) (word_same link)
+      ∙ ap (bodies.place_linked_by (fields.kind_of_field node.object link)) (words_default place node.object.values (fields.word_of_field node.object link))
       ∙ links_kind (fields.kind_of_field node.object link) (value_at node (fields.word_of_field node.object link)) (strong_held link)

@@ -60,7 +60,7 @@ module _ (place : ℕ → ℕ) where
 
   -- a prefinalizer is shown the same of a node and of its body
   pub shown_body : (setup : Setup) (bound n : ℕ) (node : Node) → IsTyped setup bound node
-      → graph.shown_words node ≡ words.shown_words setup.types (body_of place n node)
+      → graph.shown_words node ≡ words.shown_body_words setup.types (body_of place n node)
   shown_body setup bound n node typed =
       sym (take-map graph.shown 64 (take (field_words node.object.kinds) node.object.values))
       ∙ ap (take 64) (shown_kinds bound node.object.kinds node.object.values typed.values_are)

@@ -25,7 +25,7 @@ there_reference nodes v bound Null held there is = inl refl
 there_reference nodes v bound (Ref n) held there is = inr (body_of (place_of nodes) n (node_at nodes n), node_body nodes v n held there, refl)
 there_reference nodes v bound (Word w) held there is = absurd is
 
-pub bodies_typed : (setup : Setup) (nodes : List Node) (v : SeatView) → v.types ≡ setup.types → v.bodies ≡ bodies_of nodes → AreTyped setup nodes → words.AreTyped v
+pub bodies_typed : (setup : Setup) (nodes : List Node) (v : SeatView) → v.types ≡ setup.types → v.bodies ≡ bodies_of nodes → AreTyped setup nodes → words.BodiesAreTyped v
 bodies_typed setup nodes v types held typed b there =
     let node = body_node nodes v b held there in
     let t : IsTyped setup (length nodes) (node_at nodes node.0) = All-get_or (IsTyped setup (length nodes)) nodes node.0 no_node node.1 typed in

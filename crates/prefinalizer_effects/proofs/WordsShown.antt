@@ -10,7 +10,7 @@ use Rattle.gc_graph.specs.Fields.{words_of_kind, field_words}
 use Rattle.type_table.specs.Types.{kind_of, IsWordOf}
 use Rattle.type_table.specs.FieldLaw.{FieldsStandApart}
 use Rattle.type_table.specs.Layouts.{kinds_of_words}
-use Rattle.prefinalizer_effects.specs.Shown.{shown, shown_of_kinds}
+use Rattle.prefinalizer_effects.specs.Shown.{shown_field_word, shown_of_kinds}
 use Rattle.type_table.specs.KindLaws.{length-kinds_of_words}
 
 -- ---- the kinds of words
@@ -34,7 +34,7 @@ shown_length (kind ∷ kinds) [] low = absurd (omega arith)
 shown_length (kind ∷ kinds) (w ∷ words) low = omega (arith, shown_length kinds words (omega arith))
 
 pub shown_at : (kinds : List Kind) (words : List ℕ) (i : ℕ) → i < length kinds → length kinds ≤ length words
-    → get_or (shown_of_kinds kinds words) i 0 ≡ shown (get_or kinds i Plain) (get_or words i 0)
+    → get_or (shown_of_kinds kinds words) i 0 ≡ shown_field_word (get_or kinds i Plain) (get_or words i 0)
 shown_at [] words i low long = absurd (omega arith)
 shown_at (kind ∷ kinds) [] i low long = absurd (omega arith)
 shown_at (kind ∷ kinds) (w ∷ words) zero low long = refl
@@ -48,14 +48,14 @@ one_more_shown into xs i x room low is front =
 
 -- what is shown of the word with the number i
 pub word_shown : (kinds : List Kind) (fields : List ℕ) (i : ℕ) (kind : Kind) (w x : ℕ) → FieldsStandApart → i < field_words kinds → field_words kinds ≤ length fields
-    → ((field : ℕ) → IsWordOf kinds field (2 + i) → kind ≡ kind_of kinds field) → w ≡ get_or fields i 0 → x ≡ shown kind w
+    → ((field : ℕ) → IsWordOf kinds field (2 + i) → kind ≡ kind_of kinds field) → w ≡ get_or fields i 0 → x ≡ shown_field_word kind w
     → x ≡ get_or (shown_of_kinds (kinds_of_words kinds) fields) i 0
 word_shown kinds fields i kind w x law low long tells is told =
     let found = word_has_field kinds i low in
     let index : 2 + i - 2 ≡ i = omega arith in
     let known : get_or (kinds_of_words kinds) i Plain ≡ kind =
     ap (λ j. get_or (kinds_of_words kinds) j Plain) (sym index) ∙ law.kind kinds found.0 (2 + i) found.1 ∙ sym (tells found.0 found.1) in
-    told ∙ ap (shown kind) is ∙ ap (λ k. shown k (get_or fields i 0)) (sym known)
+    told ∙ ap (shown_field_word kind) is ∙ ap (λ k. shown_field_word k (get_or fields i 0)) (sym known)
     ∙ sym (shown_at (kinds_of_words kinds) fields i (omega (arith, length-kinds_of_words kinds)) (omega (arith, length-kinds_of_words kinds)))
 
 -- all words that are there, or the first 64

@@ -6,13 +6,13 @@ use Rattle.type_table.specs.Types.{kinds_of, IsFieldAt}
 use Rattle.marker_core.specs.declared.states.Body.{Body}
 use Rattle.page_words.specs.Seat.{SeatView}
 use Rattle.member_fields.specs.Words.{HasWord, HasPair}
-use Rattle.prefinalizer_effects.specs.Acting.{extra_in, field_count}
+use Rattle.prefinalizer_effects.specs.Acting.{extra_in, body_field_count}
 
 -- the field of the body at the place was found: its kind and its offset from the place, or that there is none
 abbrev pub IsFound : SeatView → ℕ → ℕ → Option (Kind × ℕ) → Type 0
 IsFound v place field found =
     (b : Body) → Contains v.bodies b → b.place ≡ place
-    → MatchOption found (field_count v.types b ≤ field) (IsFieldAt (kinds_of v.types b.ty) (extra_in v.types b) field)
+    → MatchOption found (body_field_count v.types b ≤ field) (IsFieldAt (kinds_of v.types b.ty) (extra_in v.types b) field)
 
 -- the object at the place has a word at the offset that was found, and it is of the kind
 abbrev pub HasFoundWord : SeatView → ℕ → Option (Kind × ℕ) → Type 0

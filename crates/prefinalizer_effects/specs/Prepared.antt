@@ -11,8 +11,8 @@ use Rattle.nodes_in_words.specs.Nodes.{IsThere, IsHeld}
 use Rattle.nodes_in_words.specs.Places.{IsJudged}
 
 -- what was set up
-abbrev pub setup_of : SpaceView → List ObjectType → List ActionKind → Setup
-setup_of space types callbacks = record { shape = space.shape; markers = 0; types = types; callbacks = callbacks }
+abbrev pub setup_in_space : SpaceView → List ObjectType → List ActionKind → Setup
+setup_in_space space types callbacks = record { shape = space.shape; markers = 0; types = types; callbacks = callbacks }
 
 -- null, a number, or the name of a node that is there
 abbrev pub NamesThere : List Node → Value → Type 0
@@ -31,6 +31,6 @@ pub record IsPrepared (space : SpaceView) (types : List ObjectType) (v : SeatVie
   pub off : v.on ≡ false
   pub held : IsHeld nodes v
   pub few : length nodes ≤ 1000000
-  pub typed : AreTyped (setup_of space types []) nodes
+  pub typed : AreTyped (setup_in_space space types []) nodes
   pub named : AllNameThere nodes
   pub judged : IsJudged v

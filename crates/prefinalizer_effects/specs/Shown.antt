@@ -12,18 +12,18 @@ abbrev pub shown_reference : ℕ → ℕ
 shown_reference w = if w == 0 then 0 else 1
 
 -- a plain word is shown as it is, and of a reference whether it is null
-abbrev pub shown : Kind → ℕ → ℕ
-shown Strong w = shown_reference w
-shown Weak w = shown_reference w
-shown Pair w = shown_reference w
-shown Plain w = w
+abbrev pub shown_field_word : Kind → ℕ → ℕ
+shown_field_word Strong w = shown_reference w
+shown_field_word Weak w = shown_reference w
+shown_field_word Pair w = shown_reference w
+shown_field_word Plain w = w
 
 -- what is shown of words of these kinds; a word without a kind isn't shown
 abbrev pub shown_of_kinds : List Kind → List ℕ → List ℕ
 shown_of_kinds [] words = []
 shown_of_kinds (kind ∷ kinds) [] = []
-shown_of_kinds (kind ∷ kinds) (w ∷ words) = shown kind w ∷ shown_of_kinds kinds words
+shown_of_kinds (kind ∷ kinds) (w ∷ words) = shown_field_word kind w ∷ shown_of_kinds kinds words
 
 -- the words of the body's declared fields are shown, the first 64 of them at most
-abbrev pub shown_words : List ObjectType → Body → List ℕ
-shown_words types b = take 64 (shown_of_kinds (kinds_of_words (kinds_of types b.ty)) b.fields)
+abbrev pub shown_body_words : List ObjectType → Body → List ℕ
+shown_body_words types b = take 64 (shown_of_kinds (kinds_of_words (kinds_of types b.ty)) b.fields)

@@ -7,8 +7,8 @@ ghost use Rattle.marker_core.specs.Bodies.{IsPlace};
 ghost use Rattle.marker_core.specs.declared.states.Body.{Body};
 ghost use Rattle.page_words.specs.Seat.{OnlyLooked};
 ghost use Rattle.nodes_in_words.specs.Space.{IsSeatOf};
-ghost use Rattle.prefinalizer_effects.specs.Acting.{AreTyped, AreLinked, acted};
-ghost use Rattle.prefinalizer_effects.specs.Acting.{changed_at, cleared_at, added_at};
+ghost use Rattle.prefinalizer_effects.specs.Acting.{BodiesAreTyped, AreLinked, after_action};
+ghost use Rattle.prefinalizer_effects.specs.Acting.{changed_at, body_cleared_at, body_added_at};
 
 use crate::fields::{field_in, linked_from};
 use gc_graph::{Action, Kind};
@@ -22,12 +22,12 @@ pub fn apply(space: &Space, types: &TypeTable, seat: &mut MutatorSeat, place: u3
     requires heap { IsSeatOf space.now seat.old }
     requires off { seat.old.on ≡ false }
     requires types { types.now ≡ seat.old.types }
-    requires typed { AreTyped seat.old }
+    requires typed { BodiesAreTyped seat.old }
     requires links { AreLinked seat.old }
     requires place { IsPlace seat.old.bodies place }
     ensures acted { (b : Body) → Contains seat.old.bodies b → b.place ≡ place
-        → OnlyLooked (acted seat.old b action) seat.new }
-    ensures typed { AreTyped seat.new }
+        → OnlyLooked (after_action seat.old b action) seat.new }
+    ensures typed { BodiesAreTyped seat.new }
     ensures links { AreLinked seat.new }
     ensures looked { StartsWith seat.new.looked seat.old.looked }
 {
@@ -56,10 +56,10 @@ fn clear(space: &Space, types: &TypeTable, seat: &mut MutatorSeat, place: u32, f
     requires heap { IsSeatOf space.now seat.old }
     requires off { seat.old.on ≡ false }
     requires types { types.now ≡ seat.old.types }
-    requires typed { AreTyped seat.old }
+    requires typed { BodiesAreTyped seat.old }
     requires place { IsPlace seat.old.bodies place }
     ensures changed { OnlyLooked
-        (changed_at seat.old place (cleared_at seat.old.types field)) seat.new }
+        (changed_at seat.old place (body_cleared_at seat.old.types field)) seat.new }
     ensures looked { StartsWith seat.new.looked seat.old.looked }
 {
     seat.bodies_lie_apart();
@@ -84,10 +84,10 @@ fn add(
     requires heap { IsSeatOf space.now seat.old }
     requires off { seat.old.on ≡ false }
     requires types { types.now ≡ seat.old.types }
-    requires typed { AreTyped seat.old }
+    requires typed { BodiesAreTyped seat.old }
     requires place { IsPlace seat.old.bodies place }
     ensures changed { OnlyLooked
-        (changed_at seat.old place (added_at seat.old.types field amount)) seat.new }
+        (changed_at seat.old place (body_added_at seat.old.types field amount)) seat.new }
     ensures looked { StartsWith seat.new.looked seat.old.looked }
 {
     seat.bodies_lie_apart();

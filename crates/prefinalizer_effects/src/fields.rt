@@ -6,7 +6,7 @@ ghost use Rattle.marker_core.specs.Bodies.{IsPlace};
 ghost use Rattle.marker_core.specs.declared.states.Body.{Body};
 ghost use Rattle.page_words.specs.Seat.{OnlyLooked};
 ghost use Rattle.nodes_in_words.specs.Space.{IsSeatOf};
-ghost use Rattle.prefinalizer_effects.specs.Acting.{AreTyped, AreLinked, linked};
+ghost use Rattle.prefinalizer_effects.specs.Acting.{BodiesAreTyped, AreLinked, linked_place};
 ghost use Rattle.prefinalizer_effects.specs.Places.{IsFound, HasFoundWord, HasFoundPair};
 
 use gc_graph::Kind;
@@ -27,7 +27,7 @@ pub fn field_in(
 ) -> Option<(Kind, u32)>
     requires heap { IsSeatOf space.now seat.old }
     requires types { types.now ≡ seat.old.types }
-    requires typed { AreTyped seat.old }
+    requires typed { BodiesAreTyped seat.old }
     requires place { IsPlace seat.old.bodies place }
     ensures found { IsFound seat.old place field result }
     ensures word { HasFoundWord seat.old place result }
@@ -53,11 +53,11 @@ pub fn linked_from(
 ) -> Option<u32>
     requires heap { IsSeatOf space.now seat.old }
     requires types { types.now ≡ seat.old.types }
-    requires typed { AreTyped seat.old }
+    requires typed { BodiesAreTyped seat.old }
     requires links { AreLinked seat.old }
     requires place { IsPlace seat.old.bodies place }
     ensures linked { (b : Body) → Contains seat.old.bodies b → b.place ≡ place
-        → result ≡ linked seat.old.types b link }
+        → result ≡ linked_place seat.old.types b link }
     ensures place { IfSome result (IsPlace seat.old.bodies) }
     ensures view { OnlyLooked seat.old seat.new }
     ensures looked { StartsWith seat.new.looked seat.old.looked }

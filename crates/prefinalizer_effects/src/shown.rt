@@ -7,7 +7,7 @@ ghost use Rattle.marker_core.specs.declared.states.Body.{Body};
 ghost use Rattle.page_words.specs.Seat.{OnlyLooked};
 ghost use Rattle.nodes_in_words.specs.Space.{IsSeatOf};
 ghost use Rattle.prefinalizer_effects.specs.Shown as spec;
-ghost use Rattle.prefinalizer_effects.specs.Acting.{AreTyped};
+ghost use Rattle.prefinalizer_effects.specs.Acting.{BodiesAreTyped};
 
 use gc_graph::Kind;
 use nodes_in_words::Space;
@@ -26,11 +26,11 @@ pub fn shown_words(
 ) -> u32
     requires heap { IsSeatOf space.now seat.old }
     requires types { types.now ≡ seat.old.types }
-    requires typed { AreTyped seat.old }
+    requires typed { BodiesAreTyped seat.old }
     requires place { IsPlace seat.old.bodies place }
     ensures few { result ≤ 64 }
     ensures words { (b : Body) → Contains seat.old.bodies b → b.place ≡ place
-        → take result into.new ≡ spec.shown_words seat.old.types b }
+        → take result into.new ≡ spec.shown_body_words seat.old.types b }
     ensures rest { (i : ℕ) → result ≤ i → slice_index into.new i ≡ slice_index into.old i }
     ensures view { OnlyLooked seat.old seat.new }
     ensures looked { StartsWith seat.new.looked seat.old.looked }
@@ -49,7 +49,7 @@ pub fn shown_words(
 
 /// How a word of a field of the kind is shown.
 fn shown(kind: Kind, w: u64) -> u64
-    ensures { result ≡ spec.shown kind w }
+    ensures { result ≡ spec.shown_field_word kind w }
 {
     match kind {
         Kind::Strong | Kind::Weak | Kind::Pair => u64::from(w != 0),

@@ -14,7 +14,7 @@ use Rattle.marker_core.specs.Bodies.{IsPlace, holds}
 use Rattle.marker_core.specs.declared.states.Body.{Body}
 use Rattle.page_words.specs.Seat.{SeatView}
 use Rattle.weak_clearing.specs.Space.{extents_of_bodies}
-use Rattle.prefinalizer_effects.specs.Prepared.{setup_of, IsPrepared}
+use Rattle.prefinalizer_effects.specs.Prepared.{setup_in_space, IsPrepared}
 use Rattle.prefinalizer_effects.specs.LookedObjects.{prepared_looked}
 use Rattle.prefinalizer_effects.specs.PlacesInWords.{kept_of}
 use Rattle.prefinalizer_effects.specs.Judgement.{nodes_after}
@@ -43,15 +43,15 @@ mark_out-more-requires-clause-shared g c = λ x p is.
 pub clear_weak-requires-clause-references : goal.clear_weak-requires-clause-references
 clear_weak-requires-clause-references g c =
     let marks = c.mark_out-more.ensures.over in
-    marked_references Weak (setup_of c.args.parts.space.now c.args.parts.types.now (kinds_of c.args.parts.callbacks.now)) c.args.parts.nodes.now.value c.mark_out-more.new.seat refl (marks.known ∙ c.requires.types)
-    (alive_marked (setup_of c.args.parts.space.now c.args.parts.types.now (kinds_of c.args.parts.callbacks.now)) c.args.parts.nodes.now.value (IsRootPlace c.args.parts.strong.now c.pause_begin-held.result c.args.precise c.args.parts.seat.now.bodies c.args.stack.now) (IsMayOrRoot c.pause_begin-held.result c.args.precise c.args.parts.seat.now c.args.stack.now)
+    marked_references Weak (setup_in_space c.args.parts.space.now c.args.parts.types.now (kinds_of c.args.parts.callbacks.now)) c.args.parts.nodes.now.value c.mark_out-more.new.seat refl (marks.known ∙ c.requires.types)
+    (alive_marked (setup_in_space c.args.parts.space.now c.args.parts.types.now (kinds_of c.args.parts.callbacks.now)) c.args.parts.nodes.now.value (IsRootPlace c.args.parts.strong.now c.pause_begin-held.result c.args.precise c.args.parts.seat.now.bodies c.args.stack.now) (IsMayOrRoot c.pause_begin-held.result c.args.precise c.args.parts.seat.now c.args.stack.now)
     c.args.parts.seat.now c.mark_out-more.new.seat c.requires.valid c.requires.held (c.bodies_lie_apart.ensures.marking c.requires.ready.on).no_dead marks)
 
 pub clear_weak-requires-clause-pairs : goal.clear_weak-requires-clause-pairs
 clear_weak-requires-clause-pairs g c =
     let marks = c.mark_out-more.ensures.over in
-    marked_references Pair (setup_of c.args.parts.space.now c.args.parts.types.now (kinds_of c.args.parts.callbacks.now)) c.args.parts.nodes.now.value c.mark_out-more.new.seat refl (marks.known ∙ c.requires.types)
-    (alive_marked (setup_of c.args.parts.space.now c.args.parts.types.now (kinds_of c.args.parts.callbacks.now)) c.args.parts.nodes.now.value (IsRootPlace c.args.parts.strong.now c.pause_begin-held.result c.args.precise c.args.parts.seat.now.bodies c.args.stack.now) (IsMayOrRoot c.pause_begin-held.result c.args.precise c.args.parts.seat.now c.args.stack.now)
+    marked_references Pair (setup_in_space c.args.parts.space.now c.args.parts.types.now (kinds_of c.args.parts.callbacks.now)) c.args.parts.nodes.now.value c.mark_out-more.new.seat refl (marks.known ∙ c.requires.types)
+    (alive_marked (setup_in_space c.args.parts.space.now c.args.parts.types.now (kinds_of c.args.parts.callbacks.now)) c.args.parts.nodes.now.value (IsRootPlace c.args.parts.strong.now c.pause_begin-held.result c.args.precise c.args.parts.seat.now.bodies c.args.stack.now) (IsMayOrRoot c.pause_begin-held.result c.args.precise c.args.parts.seat.now c.args.stack.now)
     c.args.parts.seat.now c.mark_out-more.new.seat c.requires.valid c.requires.held (c.bodies_lie_apart.ensures.marking c.requires.ready.on).no_dead marks)
 
 pub clear_weak-requires-clause-places : goal.clear_weak-requires-clause-places
@@ -136,9 +136,9 @@ returns-clause-paused g c = λ slots may names within.
     let other : ℕ → Type 0 = IsOtherRoot c.pause_begin-held.result c.args.precise v.bodies c.args.stack.now in
     let are = others_at nodes c.args.parts.region.now c.args.parts.pass.now c.pause_begin-held.result c.args.precise c.args.stack.now v c.requires.shared
     c.pause_begin-held.ensures.held (c.bodies_lie_apart.ensures.marking c.requires.ready.on).no_dead c.requires.held in
-    let at = has_marked (setup_of c.args.parts.space.now c.args.parts.types.now (kinds_of c.args.parts.callbacks.now)) nodes slots c.args.parts.strong.now may others other v
+    let at = has_marked (setup_in_space c.args.parts.space.now c.args.parts.types.now (kinds_of c.args.parts.callbacks.now)) nodes slots c.args.parts.strong.now may others other v
     c.mark_out-more.new.seat c.bodies_lie_apart.ensures c.requires.ready.on c.requires.valid c.requires.held names within are (marks g c) in
-    let between = keeps_between (setup_of c.args.parts.space.now c.args.parts.types.now (kinds_of c.args.parts.callbacks.now)) nodes (slot_targets slots ++ others)
+    let between = keeps_between (setup_in_space c.args.parts.space.now c.args.parts.types.now (kinds_of c.args.parts.callbacks.now)) nodes (slot_targets slots ++ others)
     (members may ++ others) (IsRootPlace c.args.parts.strong.now c.pause_begin-held.result c.args.precise v.bodies c.args.stack.now)
     (IsMayOrRoot c.pause_begin-held.result c.args.precise v c.args.stack.now) v c.mark_out-more.new.seat c.reach_is_least.ensures at in
     paused_is (kinds_of c.args.parts.callbacks.now) (roots_with (slot_targets slots) nodes c.args.parts.region.now c.args.precise c.args.stack.now)
@@ -206,6 +206,6 @@ returns-clause-looked g c = λ precise fine.
     (starts_with_trans z.looked y.looked w.looked c.prefinalise.ensures.looked
     (starts_with_trans y.looked x.looked w.looked c.clear_region.ensures.looked c.clear_weak.ensures.looked))
     (c.prefinalise.ensures.early ∙ ap (λ (u : SeatView). u.early) (c.clear_region.ensures.view ∙ c.clear_weak.ensures.fields))
-    (looked_at_kept (setup_of c.args.parts.space.now c.args.parts.types.now (kinds_of c.args.parts.callbacks.now)) nodes c.prefinalise.new.nodes.value v w c.requires.valid c.requires.held
+    (looked_at_kept (setup_in_space c.args.parts.space.now c.args.parts.types.now (kinds_of c.args.parts.callbacks.now)) nodes c.prefinalise.new.nodes.value v w c.requires.valid c.requires.held
     c.requires.types (c.bodies_lie_apart.ensures.marking c.requires.ready.on).no_dead c.bodies_lie_apart-2.ensures (marks g c).bodies (stayed g c))
     (c.mark_out-more.ensures.looked precise fine)

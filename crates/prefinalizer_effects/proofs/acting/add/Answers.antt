@@ -3,7 +3,7 @@ use Rattle.std.proofs.lemmas.Bool.{true≢false}
 use Rattle.gc_graph.specs.declared.kind.Kind.TheVariants.{Strong, Weak, Pair}
 use Rattle.gc_graph.specs.Fields.{is_plain}
 use Rattle.page_words.specs.Seat.{SeatView, unlooked}
-use Rattle.prefinalizer_effects.specs.Acting.{added_at}
+use Rattle.prefinalizer_effects.specs.Acting.{body_added_at}
 use Rattle.member_fields.specs.Words.{written}
 use Rattle.member_fields.specs.Looked.{word_looked, word_from}
 use Rattle.prefinalizer_effects.proofs.BodiesChanged.{FoundAs, plain_added, added_past, other_kept, changed_none}
@@ -55,7 +55,7 @@ returns-in-Some-Pair-default-clause-changed c =
 pub returns-in-None-clause-changed : goal.returns-in-None-clause-changed
 returns-in-None-clause-changed c =
     c.field_in.ensures.view
-    ∙ ap unlooked (changed_none c.args.seat.now c.args.place (added_at c.args.seat.now.types c.args.field c.args.amount)
+    ∙ ap unlooked (changed_none c.args.seat.now c.args.place (body_added_at c.args.seat.now.types c.args.field c.args.amount)
     (λ b there at. added_past c.args.seat.now.types c.args.field b c.args.amount (c.in-None.ensures.found b there at)))
 
 pub returns-in-Some-Plain-default-clause-looked : goal.returns-in-Some-Plain-default-clause-looked

@@ -3,7 +3,7 @@ use Rattle.gc_graph.specs.declared.kind.Kind.TheVariants.{Strong}
 use Rattle.gc_graph.specs.Fields.{is_weak}
 use Rattle.type_table.specs.Types.{is_kind}
 use Rattle.page_words.specs.Seat.{SeatView, unlooked}
-use Rattle.prefinalizer_effects.specs.Acting.{cleared_at}
+use Rattle.prefinalizer_effects.specs.Acting.{body_cleared_at}
 use Rattle.member_fields.specs.Words.{written, pair_written}
 use Rattle.member_fields.specs.Looked.{word_looked, pair_looked}
 use Rattle.prefinalizer_effects.proofs.BodiesChanged.{FoundAs, plain_kept, cleared_past, changed_none, strong_cleared, weak_cleared, pair_cleared}
@@ -53,7 +53,7 @@ returns-in-Some-Plain-default-clause-changed c =
 pub returns-in-None-clause-changed : goal.returns-in-None-clause-changed
 returns-in-None-clause-changed c =
     c.field_in.ensures.view
-    ∙ ap unlooked (changed_none c.args.seat.now c.args.place (cleared_at c.args.seat.now.types c.args.field)
+    ∙ ap unlooked (changed_none c.args.seat.now c.args.place (body_cleared_at c.args.seat.now.types c.args.field)
     (λ b there at. cleared_past c.args.seat.now.types c.args.field b (c.in-None.ensures.found b there at)))
 
 pub returns-in-Some-Strong-default-clause-looked : goal.returns-in-Some-Strong-default-clause-looked
