@@ -20,8 +20,8 @@ use Rattle.marker_core.specs.declared.states.Why.TheVariants.{Trace}
 use Rattle.marker_core.specs.declared.steps.CoreStep.TheVariants.{Load, Store, Field}
 use Rattle.marker_core.specs.Bodies.{is_place, holds}
 use Rattle.marker_core.specs.Hands.{hand_read, hand_moved, part_found, role_at_hand, wants_word, wants_key, wants, each_hand}
-use Rattle.marker_core.specs.MarkerSteps.{can_read_field, field_read, known_by}
-use Rattle.marker_core.specs.MutatorSteps.{can_load, loaded, can_store, stored}
+use Rattle.marker_core.specs.MarkerSteps.{can_read_field, core_field_read, known_by}
+use Rattle.marker_core.specs.MutatorSteps.{can_load, core_loaded, can_store, core_stored}
 use Rattle.marker_core.specs.SeatSteps.{keeps_in}
 use Rattle.marker_core.specs.Tracing.{PartFits, HandFits}
 use Rattle.marker_core.specs.Views.{spent_view, view_at}
@@ -73,7 +73,7 @@ read_fits keep s a h ok can own no_key = elim (cases_eq (get_or s.words a 0) 0) 
   | inl null ↦ omega arith
   | inr some ↦
       (let w = get_or s.words a 0 in
-      let t = loaded s a Trace in
+      let t = core_loaded s a Trace in
       let then : IsCoreOk t = keep s t (Load a Trace) ok (step_is s t (Load a Trace) can refl) in
       let found : Part = part_found (role_at_hand s.types h) h.part (w - 1) in
       let now : Hand = record h { part = found } in
@@ -90,7 +90,7 @@ read_fits keep s a h ok can own no_key = elim (cases_eq (get_or s.words a 0) 0) 
 pub stored_fits : StepsKeep → (s : CoreState) (a w : ℕ) → IsCoreOk s → can_store s a w ≡ true
     → (s.mutator.on && not (eqb w 0) && list_any (keeps_in s.types a) s.mutator.bodies) ≡ true → (0 < w) × (w ≤ 2 ^ 32)
 stored_fits keep s a w ok can joins =
-    let t = stored s a w in
+    let t = core_stored s a w in
     let then : IsCoreOk t = keep s t (Store a w) ok (step_is s t (Store a w) can refl) in
     let both = and_parts (s.mutator.on && not (eqb w 0)) (list_any (keeps_in s.types a) s.mutator.bodies) joins in
     let each = and_parts s.mutator.on (not (eqb w 0)) both.0 in
@@ -114,7 +114,7 @@ field_fits keep s k a ok can = elim (cases_eq (get_or s.words a 0) 0) [
   | inl null ↦ omega arith
   | inr some ↦
       (let w = get_or s.words a 0 in
-      let t = field_read s k a in
+      let t = core_field_read s k a in
       let then : IsCoreOk t = keep s t (Field k a) ok (step_is s t (Field k a) can refl) in
       let v = view_at s.markers k in
       let now : MarkerView = record v { hand = each_hand (hand_read s.types w) v.hand; known = v.known ++ known_by w } in

@@ -4,7 +4,7 @@ use Rattle.std.specs.List.{find}
 use Rattle.std.proofs.lemmas.Bool.{cond-true, cond-false}
 use Rattle.gc_graph.specs.declared.kind.Kind.{Kind}
 use Rattle.gc_graph.specs.declared.kind.Kind.TheVariants.{Strong, Weak, Pair, Plain}
-use Rattle.marker_core.specs.Bodies.{role_at, is_traced_role, word_count}
+use Rattle.marker_core.specs.Bodies.{role_at, is_traced_role, field_word_count}
 use Rattle.marker_core.specs.Hands.{traced_offsets}
 
 abbrev pub next_of : ℕ → ℕ → List Kind → Option ℕ
@@ -21,7 +21,7 @@ next_here Weak kinds offset at h = cc
 next_here Plain kinds offset at h = cc
 
 pub next_later : (kind : Kind) (kinds : List Kind) (offset at : ℕ) → is_next kind offset at ≡ false
-    → next_of offset at (kind ∷ kinds) ≡ next_of offset (at + word_count (kind ∷ [])) kinds
+    → next_of offset at (kind ∷ kinds) ≡ next_of offset (at + field_word_count (kind ∷ [])) kinds
 next_later Strong kinds offset at h =
     cond-false (ltb offset at) (Some at) (next_of offset (at + 1) kinds) h ∙ ap (λ n. next_of offset n kinds) (omega arith)
 next_later Pair kinds offset at h =

@@ -6,7 +6,7 @@ use Rattle.std.proofs.lemmas.Bool.{lt-ltb, ltb-true, leb-true, and_parts, false_
 use Rattle.marker_core.specs.declared.states.Body.{Body}
 use Rattle.marker_core.specs.declared.states.CoreState.{CoreState}
 use Rattle.marker_core.specs.Layout.{size_in}
-use Rattle.marker_core.specs.Bodies.{word_count, kinds_of, end_of}
+use Rattle.marker_core.specs.Bodies.{field_word_count, kinds_of_type, end_of}
 use Rattle.marker_core.specs.MutatorSteps.{body_at, is_in_free_words, can_publish}
 use Rattle.marker_core.specs.SeatSteps.{overlaps, is_whole_object, is_new_serial}
 
@@ -32,7 +32,7 @@ in_range s a can =
     let f2 = and_parts _ _ both.1 in
     let f1 = and_parts (leb (end_of b) s.count) (not (list_any (overlaps b) s.mutator.bodies)) f2.0 in
     record {
-      two = two_at_least (word_count (kinds_of s.types b.ty)) b.size (leb-true (2 + word_count (kinds_of s.types b.ty)) b.size w2.1);
+      two = two_at_least (field_word_count (kinds_of_type s.types b.ty)) b.size (leb-true (2 + field_word_count (kinds_of_type s.types b.ty)) b.size w2.1);
       small = ltb-true b.size (2 ^ 26) w3.1;
       serial = ltb-true b.serial (2 ^ 32) (and_parts (ltb b.serial (2 ^ 32)) (not (list_any (λ (c : Body). eqb c.serial b.serial) s.mutator.bodies)) all.1).0;
       inside = leb-true (end_of b) s.count f1.0;

@@ -7,6 +7,6 @@ use Rattle.marker_core.specs.declared.steps.CoreStep.{CoreStep}
 use Rattle.marker_core.specs.Step.{IsFirstRefused}
 
 -- the step that is told is the first that isn't allowed; want of memory tells nothing
-abbrev pub IsFault : CoreState → List CoreStep → CoreFault → Type 0
-IsFault start steps (NotAllowed at) = IsFirstRefused start steps at
-IsFault start steps NoMemory = Unit {0}
+abbrev pub IsStepFault : CoreState → List CoreStep → CoreFault → Type 0
+IsStepFault start steps (NotAllowed at) = IsFirstRefused start steps at
+IsStepFault start steps NoMemory = Unit {0}

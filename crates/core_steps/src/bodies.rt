@@ -1,8 +1,8 @@
 // Objects, and what each of their words is.
 
 ghost use Rattle.std.specs.Prelude.{◌≡◌, ◌<◌, ◌+◌, ◌==◌, ◌&&◌, not, [], ◌∷◌, map, filter, IfOk};
-ghost use Rattle.marker_core.specs.Bodies.{word_count, role_at, refers, keeps, is_traced_role, kinds_of};
-ghost use Rattle.marker_core.specs.Bodies.{word_in, role_in, has_word, has_field, field_number};
+ghost use Rattle.marker_core.specs.Bodies.{field_word_count, role_at, refers, keeps, is_traced_role, kinds_of_type};
+ghost use Rattle.marker_core.specs.Bodies.{word_in, role_in, body_has_word, has_field, field_number};
 ghost use Rattle.marker_core.specs.Bodies.{is_place, in_body, names_body, refers_to, holds};
 ghost use Rattle.marker_core.specs.Bodies.{with_word, places, without};
 ghost use Rattle.object_headers.specs.Offsets.{reference_to};
@@ -29,14 +29,14 @@ pub fn role_at(kinds: &[Kind], i: u64) -> Role
 
 /// How many words a field takes.
 pub fn words_of(kind: Kind) -> u64
-    ensures { result ≡ word_count (kind ∷ []) }
+    ensures { result ≡ field_word_count (kind ∷ []) }
 {
     if kind == Kind::Pair { 2 } else { 1 }
 }
 
 /// What a word of a field is.
 fn role_of(kind: Kind, i: u64) -> Role
-    requires { i < word_count (kind ∷ []) }
+    requires { i < field_word_count (kind ∷ []) }
     ensures { result ≡ role_at (kind ∷ []) i }
 {
     match kind {
@@ -62,7 +62,7 @@ pub fn keeps(role: Role) -> bool
 
 /// The kinds of a type's fields; none where there is no such type.
 pub fn kinds_of(types: &[List<Kind>], ty: u32) -> &[Kind]
-    ensures { result.now ≡ kinds_of types.now ty }
+    ensures { result.now ≡ kinds_of_type types.now ty }
 {
     match types.get(ty as usize) {
         Some(kinds) => kinds.as_slice(),
@@ -96,7 +96,7 @@ pub fn role_in(types: &[List<Kind>], b: &Body, i: u64) -> Role
 }
 
 pub fn has_word(a: u64, b: &Body) -> bool
-    ensures { result ≡ has_word a b.now }
+    ensures { result ≡ body_has_word a b.now }
 {
     u64::from(b.place) <= a && a < u64::from(b.place) + u64::from(b.size)
 }

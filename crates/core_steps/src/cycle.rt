@@ -7,9 +7,9 @@ ghost use Rattle.std.specs.List.{list_all, range_with_len};
 ghost use Rattle.marker_core.specs.Layout.{stop_at, is_marked, is_traced};
 ghost use Rattle.marker_core.specs.Bodies.{places, role_in, word_in};
 ghost use Rattle.marker_core.specs.Closed.{word_closes, body_closes, closes_over};
-ghost use Rattle.marker_core.specs.CycleSteps.{can_begin, begun};
+ghost use Rattle.marker_core.specs.CycleSteps.{can_begin, core_begun};
 ghost use Rattle.marker_core.specs.SeatSteps.{pair_is_whole, pairs_are_whole};
-ghost use Rattle.marker_core.specs.CycleSteps.{stopped, ends, can_end, unmarked_places, ended};
+ghost use Rattle.marker_core.specs.CycleSteps.{core_stopped, ends, can_end, core_unmarked_places, core_ended};
 ghost use Rattle.marker_core.specs.Core.{IsCoreOk};
 
 use crate::bodies::{role_in, word_after, word_in};
@@ -66,7 +66,7 @@ pub fn can_begin(s: &CoreState) -> bool
 
 pub fn begin(alloc: Global, s: &mut CoreState, roots: &[u32]) -> Result<(), NoMemory>
     requires { IsCoreOk s.old }
-    ensures { OnOk result (s.new ≡ begun s.old roots.now) }
+    ensures { OnOk result (s.new ≡ core_begun s.old roots.now) }
 {
     let types = s.types.as_slice();
     let bodies = s.mutator.bodies.as_slice();
@@ -91,7 +91,7 @@ fn set_stop(s: &mut CoreState, w: u64)
 // ---- the markers are told to stop, and marking ends where none is out
 
 pub fn stop(s: &mut CoreState)
-    ensures { s.new ≡ stopped s.old }
+    ensures { s.new ≡ core_stopped s.old }
 {
     set_stop(s, 1);
 }
@@ -201,7 +201,7 @@ fn unmarked_places(alloc: Global, words: &[u64], bodies: &[Body]) -> Result<List
 }
 
 pub fn end(alloc: Global, s: &mut CoreState) -> Result<(), NoMemory>
-    ensures { OnOk result (s.new ≡ ended s.old) }
+    ensures { OnOk result (s.new ≡ core_ended s.old) }
 {
     let dead = unmarked_places(alloc, s.words.as_slice(), s.mutator.bodies.as_slice())?;
     set_stop(s, 1);

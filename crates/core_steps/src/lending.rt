@@ -3,7 +3,7 @@
 ghost use Rattle.std.specs.Prelude.{◌≡◌, ◌+◌, ◌-◌, ◌++◌, ◌<◌, ◌&&◌, true, OnOk};
 ghost use Rattle.std.specs.Prelude.{slice_set};
 ghost use Rattle.marker_core.specs.Views.{fresh_view, spent_view, view_at};
-ghost use Rattle.marker_core.specs.CycleSteps.{can_split, split, can_join, joined};
+ghost use Rattle.marker_core.specs.CycleSteps.{can_split, split, can_join, core_joined};
 ghost use Rattle.std.specs.Option.{is_none};
 
 use gc_graph::NoMemory;
@@ -97,7 +97,7 @@ fn take_in(mutator: &mut MutatorView, v: &MarkerView) -> Result<(), NoMemory>
 }
 
 pub fn join(alloc: Global, s: &mut CoreState, marker: u32) -> Result<(), NoMemory>
-    ensures { OnOk result (s.new ≡ joined s.old marker) }
+    ensures { OnOk result (s.new ≡ core_joined s.old marker) }
 {
     let v = take_view(alloc, &mut s.markers, marker);
     take_in(&mut s.mutator, &v)

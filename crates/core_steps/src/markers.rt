@@ -1,8 +1,8 @@
 // The steps of the markers that trace: a claim, a field, a mark, and a look at the stop word.
 
 ghost use Rattle.std.specs.Prelude.{◌≡◌, ◌+◌, ◌++◌, ◌≤◌, ◌<◌, ◌^◌, ◌&&◌, true, OnOk};
-ghost use Rattle.marker_core.specs.MarkerSteps.{is_last, can_claim_as, claimed_as, known_by};
-ghost use Rattle.marker_core.specs.MarkerSteps.{can_read_field, field_read, can_mark_as, marked_as};
+ghost use Rattle.marker_core.specs.MarkerSteps.{is_last, can_claim_as, core_claimed_as, known_by};
+ghost use Rattle.marker_core.specs.MarkerSteps.{can_read_field, core_field_read, can_mark_as, core_marked_as};
 ghost use Rattle.marker_core.specs.MarkerSteps.{can_poll, polled};
 ghost use Rattle.marker_core.specs.Hands.{hand_read, hand_moved, each_hand};
 ghost use Rattle.marker_core.specs.Hands.{wants, wants_word, wants_mark};
@@ -61,7 +61,7 @@ pub fn claim_as(
     header: u64,
 ) -> Result<(), NoMemory>
     requires { AreTypes s.old.types }
-    ensures { OnOk result (s.new ≡ claimed_as s.old marker a header) }
+    ensures { OnOk result (s.new ≡ core_claimed_as s.old marker a header) }
 {
     let found = word_at(s.words.as_slice(), u64::from(a));
     let hand = hand_claimed(s.types.as_slice(), a, found);
@@ -125,7 +125,7 @@ fn know(known: &mut List<u32>, w: u64) -> Result<(), NoMemory>
 pub fn read_field(alloc: Global, s: &mut CoreState, marker: u32, a: u32) -> Result<(), NoMemory>
     requires ok { IsCoreOk s.old }
     requires can { can_read_field s.old marker a ≡ true }
-    ensures { OnOk result (s.new ≡ field_read s.old marker a) }
+    ensures { OnOk result (s.new ≡ core_field_read s.old marker a) }
 {
     every_step_keeps();
     let w = word_at(s.words.as_slice(), u64::from(a));
@@ -169,7 +169,7 @@ fn hand_moves(types: &[List<Kind>], hand: Option<Hand>) -> Option<Hand>
 #[tactic(auto, using(crate::proofs::ViewSets::view_sets))]
 pub fn mark_as(alloc: Global, s: &mut CoreState, marker: u32, a: u32) -> Result<(), NoMemory>
     requires { AreTypes s.old.types }
-    ensures { OnOk result (s.new ≡ marked_as s.old marker a) }
+    ensures { OnOk result (s.new ≡ core_marked_as s.old marker a) }
 {
     let header = word_at(s.words.as_slice(), u64::from(a));
     let mut v = take_view(alloc, &mut s.markers, marker);

@@ -1,10 +1,10 @@
 // The steps of the mutator that read and write words.
 
 ghost use Rattle.std.specs.Prelude.{◌≡◌, ◌+◌, ◌<◌, ◌≤◌, ◌^◌, ◌-◌, ◌==◌, ◌∷◌, slice_index, not, true, false, filter, Some, OnOk, IfOk, MatchOption, if◌then◌else◌};
-ghost use Rattle.marker_core.specs.MutatorSteps.{can_load, loaded};
+ghost use Rattle.marker_core.specs.MutatorSteps.{can_load, core_loaded};
 ghost use Rattle.marker_core.specs.Seats.{seat_of};
 ghost use Rattle.marker_core.specs.SeatSteps.{seat_looked, may_after_read};
-ghost use Rattle.marker_core.specs.MutatorSteps.{can_fill, filled, can_store, stored};
+ghost use Rattle.marker_core.specs.MutatorSteps.{can_fill, core_filled, can_store, core_stored};
 ghost use Rattle.std.specs.List.{list_any};
 ghost use Rattle.marker_core.specs.SeatSteps.{key_fits, may_store, store_fits, keeps_in};
 ghost use Rattle.marker_core.specs.Core.{IsCoreOk};
@@ -59,7 +59,7 @@ pub fn look_at(s: &mut CoreState, a: u32) -> Result<(), NoMemory>
 fn trace(s: &mut CoreState, a: u32) -> Result<(), NoMemory>
     requires ok { IsCoreOk s.old }
     requires can { can_load s.old a Why.Trace ≡ true }
-    ensures { OnOk result (s.new ≡ loaded s.old a Why.Trace) }
+    ensures { OnOk result (s.new ≡ core_loaded s.old a Why.Trace) }
 {
     every_step_keeps();
     let Some(h) = s.mutator.hand else {
@@ -82,7 +82,7 @@ fn trace(s: &mut CoreState, a: u32) -> Result<(), NoMemory>
 /// A weak read while marking goes on may keep what it gave, with all that it reaches.
 fn read_weakly(alloc: Global, s: &mut CoreState, a: u32) -> Result<(), NoMemory>
     requires { IsCoreOk s.old }
-    ensures { OnOk result (s.new ≡ loaded s.old a Why.Weak) }
+    ensures { OnOk result (s.new ≡ core_loaded s.old a Why.Weak) }
 {
     if s.mutator.on {
         s.mutator.may.push(a)?;
@@ -97,7 +97,7 @@ fn read_weakly(alloc: Global, s: &mut CoreState, a: u32) -> Result<(), NoMemory>
 pub fn load(alloc: Global, s: &mut CoreState, a: u32, why: Why) -> Result<(), NoMemory>
     requires ok { IsCoreOk s.old }
     requires can { can_load s.old a why ≡ true }
-    ensures { OnOk result (s.new ≡ loaded s.old a why) }
+    ensures { OnOk result (s.new ≡ core_loaded s.old a why) }
 {
     match why {
         Why::Read => look_at(s, a),
@@ -115,7 +115,7 @@ pub fn can_fill(s: &CoreState, a: u32) -> bool
 }
 
 pub fn fill(s: &mut CoreState, a: u32, w: u64) -> Result<(), NoMemory>
-    ensures { OnOk result (s.new ≡ filled s.old a w) }
+    ensures { OnOk result (s.new ≡ core_filled s.old a w) }
 {
     s.words.set(a as usize, w);
     refill(&mut s.mutator.filled, a, w)
@@ -201,7 +201,7 @@ fn pending_after(joins: bool, w: u64, pending: Option<u32>) -> Option<u32>
 pub fn store(s: &mut CoreState, a: u32, w: u64)
     requires ok { IsCoreOk s.old }
     requires can { can_store s.old a w ≡ true }
-    ensures { s.new ≡ stored s.old a w }
+    ensures { s.new ≡ core_stored s.old a w }
 {
     every_step_keeps();
     let joins = s.mutator.on && w != 0 && keeps_target(s, a);

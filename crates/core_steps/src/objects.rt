@@ -3,13 +3,13 @@
 ghost use Rattle.std.specs.Prelude.{◌≡◌, ◌+◌, ◌<◌, ◌^◌, ◌==◌, ◌&&◌, ◌||◌, ◌++◌, [], ◌∷◌, length};
 ghost use Rattle.std.specs.Prelude.{not, true, false, filter, IfOk, OnOk, MatchOption, slice_index};
 ghost use Rattle.std.specs.List.{list_any, list_all, range_with_len};
-ghost use Rattle.marker_core.specs.Bodies.{word_count, role_in, refers, word_in, has_word, holds};
+ghost use Rattle.marker_core.specs.Bodies.{field_word_count, role_in, refers, word_in, body_has_word, holds};
 ghost use Rattle.marker_core.specs.Bodies.{refers_to};
 ghost use Rattle.marker_core.specs.MutatorSteps.{body_at};
 ghost use Rattle.marker_core.specs.SeatSteps.{overlaps, is_whole_object};
 ghost use Rattle.marker_core.specs.MutatorSteps.{is_in_free_words, can_publish};
 ghost use Rattle.marker_core.specs.SeatSteps.{is_new_serial};
-ghost use Rattle.marker_core.specs.MutatorSteps.{published, can_retract, retracted};
+ghost use Rattle.marker_core.specs.MutatorSteps.{core_published, can_retract, core_retracted};
 ghost use Rattle.marker_core.specs.Matching.{AreTypes};
 ghost use Rattle.marker_core.specs.Core.{IsCoreOk};
 
@@ -26,7 +26,7 @@ use std::alloc::Global;
 
 /// How many words the fields of a type take.
 fn word_count(kinds: &[Kind]) -> u64
-    ensures { result ≡ word_count kinds.now }
+    ensures { result ≡ field_word_count kinds.now }
 {
     let mut total: u64 = 0;
     for kind in kinds {
@@ -173,14 +173,14 @@ pub fn object_at(alloc: Global, s: &CoreState, a: u32) -> Result<Option<Body>, N
 
 /// What was filled, without the words of the body.
 fn remove_words(filled: &mut List<(u32, u64)>, b: &Body)
-    ensures { filled.new ≡ filter (λ f. not (has_word f.0 b.now)) filled.old }
+    ensures { filled.new ≡ filter (λ f. not (body_has_word f.0 b.now)) filled.old }
 {
     filled.items.retain(|f| !has_word(u64::from(f.0), b));
 }
 
 pub fn publish(s: &mut CoreState, a: u32, b: Body) -> Result<(), NoMemory>
     requires { b ≡ body_at s.old.words a }
-    ensures { OnOk result (s.new ≡ published s.old a) }
+    ensures { OnOk result (s.new ≡ core_published s.old a) }
 {
     remove_words(&mut s.mutator.filled, &b);
     set_start(s.count, &mut s.words, a);
@@ -213,7 +213,7 @@ pub fn can_retract(s: &CoreState, a: u32) -> bool
 }
 
 pub fn retract(s: &mut CoreState, a: u32)
-    ensures { s.new ≡ retracted s.old a }
+    ensures { s.new ≡ core_retracted s.old a }
 {
     clear_start(s.count, &mut s.words, a);
     remove_body(&mut s.mutator.bodies, a);

@@ -6,7 +6,7 @@ ghost use Rattle.gc_graph.specs.Reach.{closing, closed_times};
 ghost use Rattle.std.specs.Prelude.{map, filter};
 ghost use Rattle.std.specs.List.{list_any, range_with_len};
 ghost use Rattle.marker_core.specs.Bodies.{places, is_place, holds, role_in, word_in};
-ghost use Rattle.marker_core.specs.Closed.{graph_of, reach_over};
+ghost use Rattle.marker_core.specs.Closed.{address_graph, reach_over};
 ghost use Rattle.marker_core.specs.Looking.{word_leads, some_word_leads, by_body, is_pulled};
 ghost use Rattle.marker_core.specs.Matching.{AreWhole, LieApart};
 
@@ -79,7 +79,8 @@ fn closing(
 ) -> Result<Vec<bool>, NoMemory>
     requires whole { AreWhole count types.now bodies.now }
     requires apart { LieApart bodies.now }
-    ensures { IfOk result (λ v. v.items ≡ closing (graph_of count types.now bodies.now) set.now) }
+    ensures { IfOk result (λ v. v.items
+        ≡ closing (address_graph count types.now bodies.now) set.now) }
 {
     closes_by_words();
     let mut next = Vec::new(alloc);

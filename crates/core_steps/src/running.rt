@@ -3,7 +3,7 @@
 ghost use Rattle.std.specs.Prelude.{◌≡◌, ℕ, List, true, Some, IfOk, IfErr, OnOk};
 ghost use Rattle.marker_core.specs.Step.{is_allowed, changed, core_run};
 ghost use Rattle.marker_core.specs.Core.{IsCoreOk};
-ghost use Rattle.core_steps.specs.Faults.{IsFault};
+ghost use Rattle.core_steps.specs.Faults.{IsStepFault};
 
 use crate::cycle::{begin, can_begin, can_end, end, ends, stop};
 use crate::lending::{can_join, can_split, join, lend};
@@ -179,7 +179,7 @@ fn advance_all(alloc: Global, s: &mut CoreState, steps: &[CoreStep]) -> Result<(
     requires { IsCoreOk s.old }
     ensures state { OnOk result (core_run s.old steps.now ≡ Some s.new) }
     ensures ok { OnOk result (IsCoreOk s.new) }
-    ensures refused { IfErr result (IsFault s.old steps.now) }
+    ensures refused { IfErr result (IsStepFault s.old steps.now) }
 {
     every_step_keeps();
     for (at, step) in steps.iter().enumerate() {
@@ -201,7 +201,7 @@ pub fn after(
     requires { IsCoreOk start }
     ensures state { IfOk result (λ s. core_run start steps.now ≡ Some s) }
     ensures ok { IfOk result (λ s. IsCoreOk s) }
-    ensures refused { IfErr result (IsFault start steps.now) }
+    ensures refused { IfErr result (IsStepFault start steps.now) }
 {
     match advance_all(alloc, &mut start, steps) {
         Ok(()) => Ok(start),

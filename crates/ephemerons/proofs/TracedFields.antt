@@ -14,7 +14,7 @@ use Rattle.type_table.specs.TracedLaws.{strong_told, pairs_told, strong_there, s
 use Rattle.mark_worklist.specs.declared.marking.Marking.{Marking}
 use Rattle.marker_core.specs.declared.states.Body.{Body}
 use Rattle.marker_core.specs.declared.states.Part.TheVariants.{Read}
-use Rattle.marker_core.specs.Bodies.{kinds_of}
+use Rattle.marker_core.specs.Bodies.{kinds_of_type}
 use Rattle.marker_core.specs.Hands.{traced_offsets}
 use Rattle.page_words.specs.BodyPlaces.{same_body}
 use Rattle.page_words.specs.Roles.{kind_lists}
@@ -32,7 +32,7 @@ use Rattle.ephemerons.proofs.StrongWords.{at_strong_field, at_pair_field, all_na
 pub told_apart : (types : List ObjectType) (ty : ℕ) (told : List TracedWord) → told ≡ traced_words_of (kinds_in types ty) → (i : ℕ) → i < length told
     → (offset : ℕ) → Contains (take i told) (PairAt offset) → Contains (get_or told i (StrongAt 0) ∷ []) (PairAt offset) → ⊥
 told_apart types ty told is i low offset early here =
-    let offsets : List ℕ = traced_offsets 2 (kinds_of (kind_lists types) ty) in
+    let offsets : List ℕ = traced_offsets 2 (kinds_of_type (kind_lists types) ty) in
     let long : length offsets ≡ length told = told_length types ty told is in
     let j : ℕ = early.0 in
     let before : j < i = omega (arith, early.1, length-take i told) in
@@ -44,7 +44,7 @@ told_apart types ty told is i low offset early here =
     ] in
     let at_j : get_or offsets j 0 ≡ offset = offset_at j (omega arith) ∙ ap offset_in same in
     let at_i : get_or offsets i 0 ≡ offset = offset_at i low ∙ ap offset_in last in
-    omega (arith, at_j, at_i, rising 2 (kinds_of (kind_lists types) ty) i j 0 before (omega (arith, long))) where
+    omega (arith, at_j, at_i, rising 2 (kinds_of_type (kind_lists types) ty) i j 0 before (omega (arith, long))) where
       offset_at : (k : ℕ) → k < length told → get_or (traced_in types ty) k 0 ≡ offset_in (get_or told k (StrongAt 0))
       offset_at k below = ap (λ l. get_or l k 0) (told_offsets types ty told is) ∙ get_or-map offset_in told k (StrongAt 0) 0 below
 

@@ -8,7 +8,7 @@ use Rattle.gc_graph.specs.State.{ObjectType}
 use Rattle.type_table.specs.Types.{kinds_of as kinds_in}
 use Rattle.marker_core.specs.declared.states.Body.{Body}
 use Rattle.marker_core.specs.declared.states.Role.TheVariants.{ValueWord}
-use Rattle.marker_core.specs.Bodies.{IsReference, holds, names_body, is_place, refers, role_in, kinds_of, word_count, word_in}
+use Rattle.marker_core.specs.Bodies.{IsReference, holds, names_body, is_place, refers, role_in, kinds_of_type, field_word_count, word_in}
 use Rattle.marker_core.specs.RoleOrder.{value_after_key}
 use Rattle.page_words.specs.BodyPlaces.{known_type, whole_body}
 use Rattle.page_words.specs.PlaceTests.{place_of_test}
@@ -40,13 +40,13 @@ module _ (v : SeatView) (view : IsView v) (on : v.on ≡ true) where
       let field = field_at_offset Pair (kinds_in v.types b.ty) offset pair in
       let next : offset + 1 - 2 ≡ offset - 2 + 1 = omega (arith, field.2) in
       let role : role_in (kind_lists v.types) b (offset - 2 + 1) ≡ ValueWord =
-      value_after_key (kinds_of (kind_lists v.types) b.ty) (offset - 2) (role_of_offset v.types b Pair offset pair) in
+      value_after_key (kinds_of_type (kind_lists v.types) b.ty) (offset - 2) (role_of_offset v.types b Pair offset pair) in
       subst (λ i. IsReference v.bodies (word_in b i)) (sym next) (word_refers b (offset - 2 + 1) there (ap refers role))
 
   fields_there : (b : Body) → Contains v.bodies b → field_words (kinds_in v.types b.ty) ≤ length b.fields
   fields_there b there =
       let whole = whole_body v view b there in
-      omega (arith, whole.room, whole.fields, word_count_is (kinds_in v.types b.ty), ap word_count (kinds_fit v.types b.ty))
+      omega (arith, whole.room, whole.fields, word_count_is (kinds_in v.types b.ty), ap field_word_count (kinds_fit v.types b.ty))
 
   pub are_references : (types : List ObjectType) → v.types ≡ types → AreReferences types v.bodies
   are_references types known = subst (λ ts. AreReferences ts v.bodies) known (record {

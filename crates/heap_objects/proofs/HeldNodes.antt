@@ -10,7 +10,7 @@ use Rattle.gc_graph.specs.declared.kind.Value.TheVariants.{Null, Ref, Word}
 use Rattle.gc_graph.specs.State.{Setup, ObjectType, Node, type_at, node_at, is_there, is_dead, size_of}
 use Rattle.gc_graph.specs.Fields.{field_words, new_node, size_of_type}
 use Rattle.type_table.specs.Types.{kinds_of}
-use Rattle.marker_core.specs.Bodies.{kinds_of as step_kinds, holds, word_count}
+use Rattle.marker_core.specs.Bodies.{kinds_of_type, holds, field_word_count}
 use Rattle.marker_core.specs.declared.states.Body.{Body}
 use Rattle.page_words.specs.Roles.{kind_lists, kinds_fit, word_count_is}
 use Rattle.page_words.specs.Seat.{SeatView, IsView, rewritten}
@@ -47,9 +47,9 @@ body_is_new setup f k t extra place =
 -- a size that the type tells has room for the type's fields
 pub room_for_fields : (setup : Setup) (v : SeatView) (t extra : ℕ) → v.types ≡ setup.types → least_size v t ≤ size_of_type setup t extra
 room_for_fields setup v t extra same =
-    let kinds : List Kind = step_kinds (kind_lists v.types) t in
+    let kinds : List Kind = kinds_of_type (kind_lists v.types) t in
     let told : kinds ≡ (type_at setup t).kinds = kinds_fit v.types t ∙ ap (λ (types : List ObjectType). kinds_of types t) same in
-    let words : word_count kinds ≡ field_words (type_at setup t).kinds = word_count_is kinds ∙ ap field_words told in
+    let words : field_word_count kinds ≡ field_words (type_at setup t).kinds = word_count_is kinds ∙ ap field_words told in
     omega (arith, words)
 
 -- the number after those of all nodes is no object's

@@ -6,7 +6,7 @@ use Rattle.std.proofs.lemmas.Bool.{cases_order, both_ways, eq-eqb, eqb-true, or_
 use Rattle.std.proofs.lemmas.List.{get_or_default}
 use Rattle.gc_graph.specs.declared.kind.Kind.{Kind}
 use Rattle.marker_core.specs.declared.states.Body.{Body}
-use Rattle.marker_core.specs.Bodies.{end_of, has_word, is_place, in_body, names_body}
+use Rattle.marker_core.specs.Bodies.{end_of, body_has_word, is_place, in_body, names_body}
 use Rattle.marker_core.specs.Matching.{AreWhole, LieApart}
 use Rattle.gc_graph.specs.Members.{any_member, any_from}
 
@@ -76,9 +76,9 @@ named bodies w h some = elim (or_cases (eqb w 0) (is_place bodies (w - 1)) h) [
 
 -- ---- words in bodies
 
-pub has_word_from : (b : Body) (a : ℕ) → b.place ≤ a → a < end_of b → has_word a b ≡ true
+pub has_word_from : (b : Body) (a : ℕ) → b.place ≤ a → a < end_of b → body_has_word a b ≡ true
 has_word_from b a low high = and_from (leb b.place a) (ltb a (end_of b)) (le-leb b.place a low) (lt-ltb a (end_of b) high)
 
 pub outside_body : (bodies : List Body) (a : ℕ) (b : Body) → in_body bodies a ≡ false → Contains bodies b → (i : ℕ) → i < b.size → (b.place + i ≡ a) → ⊥
 outside_body bodies a b out h i below e =
-    both_ways (in_body bodies a) out (any_from (has_word a) bodies b h (has_word_from b a (omega arith) (omega arith)))
+    both_ways (in_body bodies a) out (any_from (body_has_word a) bodies b h (has_word_from b a (omega arith) (omega arith)))

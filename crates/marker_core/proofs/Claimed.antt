@@ -11,7 +11,7 @@ use Rattle.marker_core.specs.Bodies.{is_place}
 use Rattle.marker_core.specs.Hands.{hand_claimed}
 use Rattle.marker_core.specs.MutatorSteps.{can_claim, claimed}
 use Rattle.marker_core.specs.SeatSteps.{is_grey}
-use Rattle.marker_core.specs.Views.{times, traces_at, marks_at, IsHand, IsDone}
+use Rattle.marker_core.specs.Views.{times, traces_at, marks_at, IsHand, IsHeaderRead}
 use Rattle.marker_core.specs.Core.{IsCoreOk}
 use Rattle.marker_core.proofs.Members.{held_after}
 use Rattle.marker_core.proofs.Apart.{body_of_place}
@@ -43,7 +43,7 @@ module _ (s : CoreState) (ok : IsCoreOk s) (on : s.mutator.on ≡ true) (none : 
   abbrev traces : ℕ → ℕ
   traces = traces_at s.mutator s.markers
 
-  done_cases : (x : ℕ) → IsDone (claimed_with s a false).mutator s.markers x → 0 < traces x
+  done_cases : (x : ℕ) → IsHeaderRead (claimed_with s a false).mutator s.markers x → 0 < traces x
   done_cases x done = elim done [
     | inr other ↦ (ok.may_is_closed on).done_are_traced x (inr other)
     | inl own ↦ elim (held_after (has_traced header) s.mutator.done a x own) [

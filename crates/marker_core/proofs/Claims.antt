@@ -8,7 +8,7 @@ use Rattle.marker_core.specs.declared.states.CoreState.{CoreState}
 use Rattle.marker_core.specs.declared.states.Hand.{Hand}
 use Rattle.marker_core.specs.declared.states.Part.TheVariants.{Read, Mark}
 use Rattle.marker_core.specs.Layout.{has_mark, has_traced, is_marked, type_in}
-use Rattle.marker_core.specs.Bodies.{role_at, kinds_of, is_traced_role, role_in, is_place, holds}
+use Rattle.marker_core.specs.Bodies.{role_at, kinds_of_type, is_traced_role, role_in, is_place, holds}
 use Rattle.marker_core.specs.Hands.{hand_claimed, role_at_hand}
 use Rattle.marker_core.specs.SeatSteps.{is_grey}
 use Rattle.marker_core.specs.Views.{marks_at, traces_at, IsHand, IsNoted}
@@ -96,8 +96,8 @@ module _ (s : CoreState) (ok : IsCoreOk s) (on : s.mutator.on ≡ true) (a : ℕ
         let ty : type_in header ≡ b.ty =
         type_here ∙ ap (λ (c : Body). c.ty) (same_place s.count s.types s.mutator.bodies ok.bodies_are_whole ok.bodies_lie_apart at.0 b at.1 there (at.2 ∙ sym same))
         in
-        let role' : is_traced_role (role_at (kinds_of s.types (type_in header)) i) ≡ true =
-        ap (λ t. is_traced_role (role_at (kinds_of s.types t) i)) ty ∙ role
+        let role' : is_traced_role (role_at (kinds_of_type s.types (type_in header)) i) ≡ true =
+        ap (λ t. is_traced_role (role_at (kinds_of_type s.types t) i)) ty ∙ role
         in
         let found = hand_past_finds s.types a (type_in header) 1 i role' (omega arith) in
         (found.0, changes.comes found.0 found.1, found.2 ∙ sym same, found.3)
@@ -141,7 +141,7 @@ module _ (s : CoreState) (ok : IsCoreOk s) (on : s.mutator.on ≡ true) (a : ℕ
             place = at.2 ∙ sym (ap (λ (x : Hand). x.place) past.is);
             ty = sym type_here ∙ sym (ap (λ (x : Hand). x.ty) past.is);
             past_serial = past.past_serial;
-            at_hand = ap (λ (x : Hand). is_traced_role (role_at (kinds_of s.types x.ty) (g.next - 2))) past.is ∙ past.at_hand;
+            at_hand = ap (λ (x : Hand). is_traced_role (role_at (kinds_of_type s.types x.ty) (g.next - 2))) past.is ∙ past.at_hand;
             part =
                 subst (PartFits s.mutator.bodies marks s.mutator.pending s.mutator.may (role_at_hand s.types g) at.0 (g.next - 2))
                 (sym (ap (λ (x : Hand). x.part) past.is)) tt;

@@ -11,14 +11,14 @@ use Rattle.marker_core.specs.declared.states.Role.TheVariants.{KeyWord}
 use Rattle.marker_core.specs.declared.states.Why.TheVariants.{Weak}
 use Rattle.marker_core.specs.declared.steps.CoreStep.TheVariants.{Stop}
 use Rattle.marker_core.specs.Layout.{is_marked, is_traced}
-use Rattle.marker_core.specs.Bodies.{kinds_of, refers, word_in, role_in, places, is_place, holds}
+use Rattle.marker_core.specs.Bodies.{kinds_of_type, refers, word_in, role_in, places, is_place, holds}
 use Rattle.marker_core.specs.Closed.{IsClosedOver, word_closes, body_closes, closes_over, reach_over}
-use Rattle.marker_core.specs.CycleSteps.{ends, can_end, ended, stopped}
-use Rattle.marker_core.specs.MutatorSteps.{can_load, loaded, can_publish, published}
+use Rattle.marker_core.specs.CycleSteps.{ends, can_end, core_ended, core_stopped}
+use Rattle.marker_core.specs.MutatorSteps.{can_load, core_loaded, can_publish, core_published}
 use Rattle.marker_core.specs.Views.{marks_at, traces_at}
 use Rattle.marker_core.specs.Step.{is_allowed, changed, core_step}
 use Rattle.marker_core.specs.Core.{IsCoreOk}
-use Rattle.marker_core.specs.Laws.{is_marked_in, NewAndReadMayBeKept, IsMarkedOut, EndsMarkedOut}
+use Rattle.marker_core.specs.Laws.{is_marked_in, NewAndReadMayBeKept, HasEndedMarking, EndsMarkedOut}
 use Rattle.marker_core.proofs.Members.{all_member}
 use Rattle.gc_graph.specs.Members.{pushed_is_held, holds_from, Contains-map, stays_in, below_ranged}
 use Rattle.marker_core.proofs.Apart.{body_of_place, place_of_body, named}
@@ -32,11 +32,11 @@ pub may_be_kept : ReachIsLeast → NewAndReadMayBeKept
 unfolding core_step
 may_be_kept law s t a ok on step = elim step [
   | inl publish ↦
-      (let both = cond_some (can_publish s a) (published s a) t publish in
+      (let both = cond_some (can_publish s a) (core_published s a) t publish in
       subst (λ u. holds u.mutator.may a ≡ true) both.1
       (ap (λ l. holds l a) (cond-true s.mutator.on (s.mutator.may ++ a ∷ []) s.mutator.may on) ∙ pushed_is_held s.mutator.may a))
   | inr read ↦
-      (let both = cond_some (can_load s a Weak) (loaded s a Weak) t read in
+      (let both = cond_some (can_load s a Weak) (core_loaded s a Weak) t read in
       let least = reach_over_law law s.count s.types s.mutator.bodies (s.mutator.may ++ a ∷ []) ok.bodies_are_whole ok.bodies_lie_apart (all_name_bodies s ok on) in
       subst (λ u. holds u.mutator.may a ≡ true) both.1
       (ap (λ l. holds l a) (cond-true s.mutator.on (reach_over s.count s.types s.mutator.bodies (s.mutator.may ++ a ∷ [])) s.mutator.may on)
@@ -84,7 +84,7 @@ module _ (s : CoreState) (ok : IsCoreOk s) (on : s.mutator.on ≡ true) (can : c
   pair_closed b i h marked role key key_marked value =
       let names = all_name_bodies s ok on in
       let key_place = named s.mutator.bodies (word_in b i) (names b i h (ap refers role)) key in
-      let after = value_after_key (kinds_of s.types b.ty) i role in
+      let after = value_after_key (kinds_of_type s.types b.ty) i role in
       let target = named s.mutator.bodies (word_in b (i + 1)) (names b (i + 1) h (ap refers after)) value in
       let is_key : bit (word_in b i - 1) ≡ true = mark_is (word_in b i - 1) key_place ∙ key_marked in
       let test : (eqb (word_in b i) 0 || not (bit (word_in b i - 1)) || eqb (word_in b (i + 1)) 0 || bit (word_in b (i + 1) - 1)) ≡ true =
@@ -115,7 +115,7 @@ module _ (s : CoreState) (ok : IsCoreOk s) (on : s.mutator.on ≡ true) (can : c
     pairs = λ b i h marked role key key_marked value. pair_closed b i h marked role key key_marked value;
   }
 
-  marked_out : IsMarkedOut (ended s)
+  marked_out : HasEndedMarking (core_ended s)
   marked_out = record {
     closed = closed_out;
     traced = λ a some.
@@ -141,10 +141,10 @@ ends_marked_out s t roots ok on step off =
     elim (cases_Bool (ends s)) [
       | inl ending ↦
           (let can : can_end s ≡ true = sym (cond-true (ends s) (can_end s) true ending) ∙ both.0 in
-          subst IsMarkedOut (sym (cond-true (ends s) (ended s) (stopped s) ending) ∙ both.1) (marked_out s ok on can))
+          subst HasEndedMarking (sym (cond-true (ends s) (core_ended s) (core_stopped s) ending) ∙ both.1) (marked_out s ok on can))
       | inr goes_on ↦
           (let same : t.mutator.on ≡ s.mutator.on =
-          ap (λ (u : CoreState). u.mutator.on) (sym both.1 ∙ cond-false (ends s) (ended s) (stopped s) goes_on)
+          ap (λ (u : CoreState). u.mutator.on) (sym both.1 ∙ cond-false (ends s) (core_ended s) (core_stopped s) goes_on)
           in
           absurd (both_ways s.mutator.on (sym same ∙ off) on))
     ]

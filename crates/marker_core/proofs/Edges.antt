@@ -8,7 +8,7 @@ use Rattle.gc_graph.specs.declared.kind.Kind.TheVariants.{Strong, Weak, Pair, Pl
 use Rattle.gc_graph.specs.Graph.{strong_targets, pair_targets}
 use Rattle.marker_core.specs.declared.states.Role.TheVariants.{StrongWord, WeakWord, KeyWord, ValueWord, PlainWord}
 use Rattle.marker_core.specs.declared.states.Role.{Role}
-use Rattle.marker_core.specs.Bodies.{role_at, refers, is_traced_role, word_count}
+use Rattle.marker_core.specs.Bodies.{role_at, refers, is_traced_role, field_word_count}
 use Rattle.marker_core.specs.Closed.{values_of}
 
 -- a strong word that names n
@@ -120,7 +120,7 @@ edge_pair test (Pair ∷ kinds) (suc k ∷ suc v ∷ ws) (suc (suc i)) n role ke
     or_right (test k && eqb v n) (pair_to test kinds ws n) (edge_pair test kinds ws i n role key passes value to)
 
 -- a reference is a word of the declared fields
-pub refers_within : (kinds : List Kind) (i : ℕ) → refers (role_at kinds i) ≡ true → i < word_count kinds
+pub refers_within : (kinds : List Kind) (i : ℕ) → refers (role_at kinds i) ≡ true → i < field_word_count kinds
 refers_within [] i h = absurd (false≢true h)
 refers_within (Strong ∷ kinds) zero h = omega arith
 refers_within (Strong ∷ kinds) (suc i) h = omega (arith, refers_within kinds i h)

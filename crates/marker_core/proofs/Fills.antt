@@ -8,7 +8,7 @@ use Rattle.std.proofs.lemmas.List.Kept.{AllPairs-cons, AllPairs-filter}
 use Rattle.marker_core.specs.declared.states.CoreState.{CoreState}
 use Rattle.marker_core.specs.Bodies.{in_body}
 use Rattle.marker_core.specs.Views.{marks_at, traces_at}
-use Rattle.marker_core.specs.MutatorSteps.{can_fill, filled}
+use Rattle.marker_core.specs.MutatorSteps.{can_fill, core_filled}
 use Rattle.marker_core.specs.Matching.{FilledMatch}
 use Rattle.marker_core.specs.Core.{IsCoreOk}
 use Rattle.gc_graph.specs.Members.{Contains-cons_cases, was_in, has_passed}
@@ -56,7 +56,7 @@ module _ (s : CoreState) (ok : IsCoreOk s) (a w : ℕ) (below : a < s.count) (ou
         (AllPairs-filter (λ (f g : ℕ × ℕ). f.0 ≢ g.0) (elsewhere a) s.mutator.filled ok.filled_match.once);
   }
 
-  filled_state : IsCoreOk (filled s a w)
+  filled_state : IsCoreOk (core_filled s a w)
   filled_state =
       let now_words = set s.words a w in
       let bodies = s.mutator.bodies in
@@ -94,7 +94,7 @@ module _ (s : CoreState) (ok : IsCoreOk s) (a w : ℕ) (below : a < s.count) (ou
         may_is_closed = ok.may_is_closed;
       }
 
-pub fill_ok : (s : CoreState) → IsCoreOk s → (a w : ℕ) → can_fill s a ≡ true → IsCoreOk (filled s a w)
+pub fill_ok : (s : CoreState) → IsCoreOk s → (a w : ℕ) → can_fill s a ≡ true → IsCoreOk (core_filled s a w)
 fill_ok s ok a w can =
     let tests = and_parts (ltb a s.count) (not (in_body s.mutator.bodies a)) can in
     filled_state s ok a w (ltb-true a s.count tests.0) (not-true (in_body s.mutator.bodies a) tests.1)

@@ -7,7 +7,7 @@ use Rattle.marker_core.specs.declared.states.CoreState.{CoreState}
 use Rattle.marker_core.specs.declared.states.Why.TheVariants.{Read, Weak, Trace}
 use Rattle.marker_core.specs.declared.steps.CoreStep.{CoreStep}
 use Rattle.marker_core.specs.declared.steps.CoreStep.TheVariants.{Load, Fill, Store, Publish, Retract, Mark, Header, Stop, Split, Join, Bit, Look, Claim, Field, MarkerMark, Poll}
-use Rattle.marker_core.specs.CycleSteps.{ends, can_end, ended, stopped}
+use Rattle.marker_core.specs.CycleSteps.{ends, can_end, core_ended, core_stopped}
 use Rattle.marker_core.specs.Step.{is_allowed, changed, core_step, core_run}
 use Rattle.marker_core.specs.Core.{IsCoreOk}
 use Rattle.marker_core.specs.Laws.{StepsKeep, RunsKeep}
@@ -27,12 +27,12 @@ use Rattle.marker_core.proofs.Looks.{look_ok, field_ok}
 use Rattle.marker_core.proofs.MarkerClaims.{claim_as_ok}
 use Rattle.marker_core.proofs.MarkerMarks.{mark_as_ok}
 
-stop_ok : (s : CoreState) → IsCoreOk s → cond (ends s) (can_end s) true ≡ true → IsCoreOk (cond (ends s) (ended s) (stopped s))
+stop_ok : (s : CoreState) → IsCoreOk s → cond (ends s) (can_end s) true ≡ true → IsCoreOk (cond (ends s) (core_ended s) (core_stopped s))
 stop_ok s ok can = elim (cases_Bool (ends s)) [
   | inl ending ↦
-      subst IsCoreOk (sym (cond-true (ends s) (ended s) (stopped s) ending))
+      subst IsCoreOk (sym (cond-true (ends s) (core_ended s) (core_stopped s) ending))
       (end_ok s ok ending (sym (cond-true (ends s) (can_end s) true ending) ∙ can))
-  | inr goes_on ↦ subst IsCoreOk (sym (cond-false (ends s) (ended s) (stopped s) goes_on)) (stopped_ok s ok)
+  | inr goes_on ↦ subst IsCoreOk (sym (cond-false (ends s) (core_ended s) (core_stopped s) goes_on)) (stopped_ok s ok)
 ]
 
 pub allowed_ok : ReachIsLeast → (s : CoreState) → IsCoreOk s → (step : CoreStep) → is_allowed s step ≡ true → IsCoreOk (changed s step)

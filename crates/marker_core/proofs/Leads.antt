@@ -13,7 +13,7 @@ use Rattle.marker_core.specs.declared.states.Body.{Body}
 use Rattle.marker_core.specs.declared.states.Role.{Role}
 use Rattle.marker_core.specs.declared.states.Role.TheVariants.{StrongWord, WeakWord, KeyWord, ValueWord, PlainWord}
 use Rattle.marker_core.specs.Bodies.{word_in, role_in}
-use Rattle.marker_core.specs.Closed.{object_of, node_of, graph_of}
+use Rattle.marker_core.specs.Closed.{object_of, address_node, address_graph}
 use Rattle.marker_core.specs.Matching.{AreWhole, LieApart}
 use Rattle.marker_core.specs.Looking.{word_leads, some_word_leads, by_body}
 use Rattle.marker_core.specs.Laws.{ClosesByWords}
@@ -91,7 +91,7 @@ below_some p (suc n) h = elim (or_cases (p n) (any_below p n) h) [
 
 module _ (count : ℕ) (types : List (List Kind)) (bodies : List Body) (whole : AreWhole count types bodies) (apart : LieApart bodies) (set : List Bool) (n : ℕ) where
   abbrev by_node : ℕ → Bool
-  by_node m = has set m && leads_to set (object_at (graph_of count types bodies) m) n
+  by_node m = has set m && leads_to set (object_at (address_graph count types bodies) m) n
 
   pub pulled_is : any_below by_node count ≡ list_any (by_body types set n) bodies
   pulled_is = elim (cases_Bool (list_any (by_body types set n) bodies)) [
@@ -100,13 +100,13 @@ module _ (count : ℕ) (types : List (List Kind)) (bodies : List Body) (whole : 
         let both = and_parts (has set found.0.place) (some_word_leads types (has set) found.0 n) found.2 in
         let below = place_below count types bodies found.0.place whole (place_of_body bodies found.0 found.0.place found.1 refl) in
         any_below-from by_node count found.0.place below
-        (and_from (has set found.0.place) (leads_to set (object_at (graph_of count types bodies) found.0.place) n) both.0
+        (and_from (has set found.0.place) (leads_to set (object_at (address_graph count types bodies) found.0.place) n) both.0
         (ap (λ o. leads_to set o n) (body_node count types bodies whole apart found.0 found.1) ∙ leads_is types (has set) found.0 n ∙ both.1))
         ∙ sym some)
     | inr none ↦
         false_from_ne_true (any_below by_node count) (λ some.
         let found = below_some by_node count some in
-        let both = and_parts (has set found.0) (leads_to set (object_at (graph_of count types bodies) found.0) n) found.2 in
+        let both = and_parts (has set found.0) (leads_to set (object_at (address_graph count types bodies) found.0) n) found.2 in
         elim (node_cases count types bodies whole apart found.0) [
           | inl b ↦
               both_ways (list_any (by_body types set n) bodies) none
@@ -121,8 +121,8 @@ module _ (count : ℕ) (types : List (List Kind)) (bodies : List Body) (whole : 
 -- the closing of a set, number by number
 pub closes_by_words : ClosesByWords
 closes_by_words count types bodies set whole apart =
-    let long : length (graph_of count types bodies) ≡ count = length-map-range_with_len (λ a. node_of types (find (λ (b : Body). eqb b.place a) bodies)) 0 count in
+    let long : length (address_graph count types bodies) ≡ count = length-map-range_with_len (λ a. address_node types (find (λ (b : Body). eqb b.place a) bodies)) 0 count in
     sym
     (ap (λ f. map f (range_with_len 0 count))
     (fun_ext (λ n. ap (λ t. has set n || t) (sym (pulled_is count types bodies whole apart set n))))
-    ∙ ap (λ m. set_of (λ n. has set n || any_below (λ k. has set k && leads_to set (object_at (graph_of count types bodies) k) n) m) m) (sym long))
+    ∙ ap (λ m. set_of (λ n. has set n || any_below (λ k. has set k && leads_to set (object_at (address_graph count types bodies) k) n) m) m) (sym long))

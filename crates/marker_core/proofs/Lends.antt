@@ -10,7 +10,7 @@ use Rattle.marker_core.specs.declared.states.Hand.{Hand}
 use Rattle.marker_core.specs.declared.states.MarkerView.{MarkerView}
 use Rattle.marker_core.specs.declared.states.MutatorView.{MutatorView}
 use Rattle.marker_core.specs.Bodies.{holds}
-use Rattle.marker_core.specs.CycleSteps.{can_split, split, can_join, joined}
+use Rattle.marker_core.specs.CycleSteps.{can_split, split, can_join, core_joined}
 use Rattle.marker_core.specs.Views.{times, marks_at, traces_at, IsHand, IsNoted, fresh_view, spent_view, view_at}
 use Rattle.marker_core.specs.Matching.{IsEmptied}
 use Rattle.marker_core.specs.Core.{IsCoreOk}
@@ -144,7 +144,7 @@ module _ (s : CoreState) (ok : IsCoreOk s) (k : ℕ) (out : (view_at s.markers k
   nothing_is_out : IsEmptied spent_view
   nothing_is_out = record { known = refl; marked = refl; traced = refl; noted = refl; hand = refl; done = refl; halted = refl }
 
-  pub joined_state : IsCoreOk (joined s k)
+  pub joined_state : IsCoreOk (core_joined s k)
   joined_state =
       let on = is_on s ok k out in
       let may = ok.may_is_closed on in
@@ -224,7 +224,7 @@ module _ (s : CoreState) (ok : IsCoreOk s) (k : ℕ) (out : (view_at s.markers k
         };
       })
 
-pub join_ok : (s : CoreState) → IsCoreOk s → (k : ℕ) → can_join s k ≡ true → IsCoreOk (joined s k)
+pub join_ok : (s : CoreState) → IsCoreOk s → (k : ℕ) → can_join s k ≡ true → IsCoreOk (core_joined s k)
 join_ok s ok k can =
     let tests = and_parts (not (view_at s.markers k).spent) (is_none (view_at s.markers k).hand) can in
     joined_state s ok k (not-true (view_at s.markers k).spent tests.0) (is_none_tells (view_at s.markers k).hand tests.1)

@@ -8,8 +8,8 @@ use Rattle.marker_core.specs.declared.states.Why.TheVariants.{Read, Weak}
 use Rattle.marker_core.specs.Layout.{is_traced}
 use Rattle.marker_core.specs.Bodies.{word_in, is_place, holds}
 use Rattle.marker_core.specs.Closed.{reach_over}
-use Rattle.marker_core.specs.Views.{marks_at, traces_at, IsHand, IsDone}
-use Rattle.marker_core.specs.MutatorSteps.{loaded}
+use Rattle.marker_core.specs.Views.{marks_at, traces_at, IsHand, IsHeaderRead}
+use Rattle.marker_core.specs.MutatorSteps.{core_loaded}
 use Rattle.marker_core.specs.Seats.{seat_of}
 use Rattle.marker_core.specs.SeatSteps.{seat_looked, may_after_read}
 use Rattle.marker_core.specs.Tracing.{MayIsClosed}
@@ -37,7 +37,7 @@ module _ (s : CoreState) (ok : IsCoreOk s) where
       subst (λ x. 0 < traces_at s.mutator s.markers x) at.2 (true_is_some (traces_at s.mutator s.markers at.0.place) one)
 
   module _ (on : s.mutator.on ≡ true) (a : ℕ) where
-    pub looked_done : (x : ℕ) → IsDone (looked_at s a) s.markers x → 0 < traces_at s.mutator s.markers x
+    pub looked_done : (x : ℕ) → IsHeaderRead (looked_at s a) s.markers x → 0 < traces_at s.mutator s.markers x
     looked_done x done = elim done [
       | inr other ↦ (ok.may_is_closed on).done_are_traced x (inr other)
       | inl own ↦ elim (held_after (s.mutator.on && is_place s.mutator.bodies a && is_traced s.words a) s.mutator.done a x own) [
@@ -51,7 +51,7 @@ module _ (s : CoreState) (ok : IsCoreOk s) where
 
     abbrev MayOf : List ℕ → Type 0
     MayOf may = MayIsClosed s.types s.mutator.bodies (marks_at s.mutator s.markers) (traces_at s.mutator s.markers) s.mutator.pending may
-        s.mutator.seen (IsHand s.mutator s.markers) (IsDone (looked_at s a) s.markers)
+        s.mutator.seen (IsHand s.mutator s.markers) (IsHeaderRead (looked_at s a) s.markers)
 
     looked_may : MayOf s.mutator.may
     looked_may =
@@ -100,7 +100,7 @@ module _ (s : CoreState) (ok : IsCoreOk s) where
           done_are_traced = looked_done;
         }
 
-  pub read_ok : (a : ℕ) → IsCoreOk (loaded s a Read)
+  pub read_ok : (a : ℕ) → IsCoreOk (core_loaded s a Read)
   read_ok a = record {
     are_types = ok.are_types;
     has_room = ok.has_room;
@@ -140,7 +140,7 @@ module _ (s : CoreState) (ok : IsCoreOk s) where
         (cond-false s.mutator.on (reach_over s.count s.types s.mutator.bodies (s.mutator.may ++ a ∷ [])) s.mutator.may off) ∙ member
   ]
 
-  pub weak_ok : ReachIsLeast → (a : ℕ) → IsCoreOk (loaded s a Weak)
+  pub weak_ok : ReachIsLeast → (a : ℕ) → IsCoreOk (core_loaded s a Weak)
   weak_ok law a = record {
     are_types = ok.are_types;
     has_room = ok.has_room;

@@ -10,7 +10,7 @@ use Rattle.marker_core.specs.declared.states.MarkerView.{MarkerView}
 use Rattle.marker_core.specs.Layout.{has_mark, has_traced, stop_at}
 use Rattle.marker_core.specs.Bodies.{is_place, holds}
 use Rattle.marker_core.specs.Hands.{hand_read, hand_looked, wants_word, wants_key, wants, noted_pair, each_hand}
-use Rattle.marker_core.specs.MarkerSteps.{can_look, looked, can_read_field, field_read, known_by, with_view}
+use Rattle.marker_core.specs.MarkerSteps.{can_look, looked, can_read_field, core_field_read, known_by, with_marker_view}
 use Rattle.marker_core.specs.Views.{times, marks_at, traces_at, IsHand, IsNoted, spent_view, view_at}
 use Rattle.marker_core.specs.Tracing.{NotedArePairs}
 use Rattle.marker_core.specs.Core.{IsCoreOk}
@@ -82,7 +82,7 @@ module _ (s : CoreState) (ok : IsCoreOk s) (k : ℕ) (out : (view_at s.markers k
       omega (arith, sums, same)
 
   -- the hand is the same
-  pub same_hand_ok : now.hand ≡ view.hand → IsCoreOk (with_view s k now)
+  pub same_hand_ok : now.hand ≡ view.hand → IsCoreOk (with_marker_view s k now)
   same_hand_ok same =
       let goes = hand_goes s ok k out now s.mutator refl same in
       let comes = hand_comes s ok k out now s.mutator refl same in
@@ -108,7 +108,7 @@ module _ (s : CoreState) (ok : IsCoreOk s) (k : ℕ) (out : (view_at s.markers k
 
   -- the hand takes a turn
   pub turned_hand_ok : (h : Hand) → view.hand ≡ Some h
-      → HandTurn s.types s.mutator.bodies marks s.mutator.pending s.mutator.may (IsNoted s.mutator views) h now.hand → IsCoreOk (with_view s k now)
+      → HandTurn s.types s.mutator.bodies marks s.mutator.pending s.mutator.may (IsNoted s.mutator views) h now.hand → IsCoreOk (with_marker_view s k now)
   turned_hand_ok h own turn =
       let held : IsHand s.mutator s.markers h = own_hand s ok k out h own in
       let fits = ok.hands_are_bodies.hands h held in
@@ -190,7 +190,7 @@ module _ (s : CoreState) (ok : IsCoreOk s) (k a : ℕ) (can : can_look s k a ≡
     ];
   }
 
-  look_at_key : (h : Hand) → own.hand ≡ Some h → wants_key h.part a ≡ true → IsCoreOk (with_view s k (looked_view s k a true))
+  look_at_key : (h : Hand) → own.hand ≡ Some h → wants_key h.part a ≡ true → IsCoreOk (with_marker_view s k (looked_view s k a true))
   look_at_key h mine key =
       let now = looked_view s k a true in
       let held : IsHand s.mutator s.markers h = own_hand s ok k out_here h mine in
@@ -219,11 +219,11 @@ module _ (s : CoreState) (ok : IsCoreOk s) (k a : ℕ) (can : can_look s k a ≡
   pub looked_state : IsCoreOk (looked s k a)
   looked_state = elim (cases_Bool (wants (λ h. wants_key h.part a) own.hand)) [
     | inr other_header ↦
-        subst (λ key. IsCoreOk (with_view s k (looked_view s k a key))) (sym other_header)
+        subst (λ key. IsCoreOk (with_marker_view s k (looked_view s k a key))) (sym other_header)
         (same_hand_ok s ok k out_here (looked_view s k a false)
         (looked_keeps false (λ p h. h) (noted_again s ok k out_here (looked_view s k a false) refl)) refl)
     | inl key ↦
-        subst (λ b. IsCoreOk (with_view s k (looked_view s k a b))) (sym key)
+        subst (λ b. IsCoreOk (with_marker_view s k (looked_view s k a b))) (sym key)
         (elim (hand_or_none own.hand) [
           | inl none ↦ absurd (false≢true (sym (ap (wants (λ h. wants_key h.part a)) none) ∙ key))
           | inr some ↦ look_at_key some.0 some.1 (sym (ap (wants (λ h. wants_key h.part a)) some.1) ∙ key)
@@ -265,7 +265,7 @@ module _ (s : CoreState) (ok : IsCoreOk s) (k a : ℕ) (h : Hand) (mine : (view_
         ∙ target_is_place s ok (is_on s ok k out_now) noted h (own_hand s ok k out_now h mine) a want some)
   ]
 
-  reads : IsCoreOk (field_read s k a)
+  reads : IsCoreOk (core_field_read s k a)
   reads =
       let noted = IsNoted s.mutator (set s.markers k after) in
       let n : after.hand ≡ hand_read s.types word h = ap (each_hand (hand_read s.types word)) mine in
@@ -287,7 +287,7 @@ module _ (s : CoreState) (ok : IsCoreOk s) (k a : ℕ) (h : Hand) (mine : (view_
       (subst (HandTurn s.types s.mutator.bodies (marks_at s.mutator s.markers) s.mutator.pending s.mutator.may noted h) (sym n)
       (turn_by_word s ok (is_on s ok k out_now) noted h (own_hand s ok k out_now h mine) a want))
 
-pub field_ok : (s : CoreState) → IsCoreOk s → (k a : ℕ) → can_read_field s k a ≡ true → IsCoreOk (field_read s k a)
+pub field_ok : (s : CoreState) → IsCoreOk s → (k a : ℕ) → can_read_field s k a ≡ true → IsCoreOk (core_field_read s k a)
 field_ok s ok k a can = elim (hand_or_none (view_at s.markers k).hand) [
   | inl none ↦ absurd (false≢true (sym (ap (wants (λ h. wants_word h h.part a)) none) ∙ can))
   | inr some ↦ reads s ok k a some.0 some.1 (sym (ap (wants (λ h. wants_word h h.part a)) some.1) ∙ can)

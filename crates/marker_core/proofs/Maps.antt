@@ -6,7 +6,7 @@ use Rattle.std.proofs.lemmas.Bool.{cases_Bool, cases_eq, cond-true, cond-false, 
 use Rattle.std.proofs.lemmas.List.{length-map, length-set, get_or-map, get_or-set_same, get_or-set_other}
 use Rattle.gc_graph.specs.declared.kind.Kind.{Kind}
 use Rattle.marker_core.specs.declared.states.Body.{Body}
-use Rattle.marker_core.specs.Bodies.{word_in, has_field, field_number, has_word, end_of, with_word, is_place, in_body, names_body}
+use Rattle.marker_core.specs.Bodies.{word_in, has_field, field_number, body_has_word, end_of, with_word, is_place, in_body, names_body}
 use Rattle.marker_core.specs.Tracing.{IsPairAt}
 use Rattle.gc_graph.specs.Members.{Contains-map, Contains-map_some}
 
@@ -23,7 +23,7 @@ module _ (a w : ℕ) where
 
   pub in_body_same : (bodies : List Body) (x : ℕ) → in_body (map (with_word a w) bodies) x ≡ in_body bodies x
   in_body_same [] x = refl
-  in_body_same (b ∷ bodies) x = ap (λ t. has_word x b || t) (in_body_same bodies x)
+  in_body_same (b ∷ bodies) x = ap (λ t. body_has_word x b || t) (in_body_same bodies x)
 
   pub names_same : (bodies : List Body) (r : ℕ) → names_body (map (with_word a w) bodies) r ≡ names_body bodies r
   names_same bodies r = ap (λ t. eqb r 0 || t) (places_same bodies (r - 1))

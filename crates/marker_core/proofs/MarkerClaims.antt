@@ -10,7 +10,7 @@ use Rattle.marker_core.specs.Layout.{has_mark, has_traced, is_traced}
 use Rattle.marker_core.specs.Bodies.{is_place, holds}
 use Rattle.marker_core.specs.Hands.{hand_claimed}
 use Rattle.marker_core.specs.SeatSteps.{is_grey}
-use Rattle.marker_core.specs.MarkerSteps.{can_claim_as, claimed_as, is_last, with_view}
+use Rattle.marker_core.specs.MarkerSteps.{can_claim_as, core_claimed_as, is_last, with_marker_view}
 use Rattle.marker_core.specs.Views.{times, marks_at, traces_at, IsHand, IsNoted, view_at}
 use Rattle.marker_core.specs.Core.{IsCoreOk}
 use Rattle.marker_core.proofs.Members.{held_after}
@@ -47,7 +47,7 @@ module _ (s : CoreState) (ok : IsCoreOk s) (k a : ℕ) (known : holds (view_at s
     missed = cond (has_traced found) view.missed (view.missed ++ a ∷ []);
   }
 
-  not_claimed : IsCoreOk (with_view s k refused)
+  not_claimed : IsCoreOk (with_marker_view s k refused)
   not_claimed =
       same_hand_ok s ok k out refused
       (record {
@@ -147,15 +147,15 @@ module _ (s : CoreState) (ok : IsCoreOk s) (k a : ℕ) (known : holds (view_at s
     markers = set s.markers k (record view { traced = view.traced ++ a ∷ []; hand = hand_claimed s.types a found });
   }
 
-  claimed_if : (header : ℕ) → is_grey header ≡ true → IsCoreOk (claimed_as s k a header)
+  claimed_if : (header : ℕ) → is_grey header ≡ true → IsCoreOk (core_claimed_as s k a header)
   claimed_if header grey = elim (cases_Bool (eqb found header)) [
     | inl same ↦
-        subst IsCoreOk (sym (cond-true (eqb found header) taken_state (with_view s k refused) same))
+        subst IsCoreOk (sym (cond-true (eqb found header) taken_state (with_marker_view s k refused) same))
         (is_claimed (ap is_grey (eqb-true found header same) ∙ grey))
-    | inr other ↦ subst IsCoreOk (sym (cond-false (eqb found header) taken_state (with_view s k refused) other)) not_claimed
+    | inr other ↦ subst IsCoreOk (sym (cond-false (eqb found header) taken_state (with_marker_view s k refused) other)) not_claimed
   ]
 
-pub claim_as_ok : (s : CoreState) → IsCoreOk s → (k a header : ℕ) → can_claim_as s k a header ≡ true → IsCoreOk (claimed_as s k a header)
+pub claim_as_ok : (s : CoreState) → IsCoreOk s → (k a header : ℕ) → can_claim_as s k a header ≡ true → IsCoreOk (core_claimed_as s k a header)
 claim_as_ok s ok k a header can =
     let view = view_at s.markers k in
     let t3 = and_parts (holds view.known a && is_none view.hand && is_last view.last a header) (is_grey header) can in

@@ -15,13 +15,13 @@ use Rattle.marker_core.specs.declared.states.Part.{Part}
 use Rattle.marker_core.specs.declared.states.Part.TheVariants.{Mark, Key, Value}
 use Rattle.marker_core.specs.declared.states.Role.TheVariants.{KeyWord}
 use Rattle.marker_core.specs.Layout.{bit_is_set, is_marked, is_traced}
-use Rattle.marker_core.specs.Bodies.{word_count, refers, role_at, kinds_of, is_place, holds}
+use Rattle.marker_core.specs.Bodies.{field_word_count, refers, role_at, kinds_of_type, is_place, holds}
 use Rattle.marker_core.specs.Hands.{role_at_hand, wants_word, wants}
 use Rattle.marker_core.specs.Matching.{IsWhole}
 use Rattle.marker_core.specs.Tracing.{HandFits, PartFits}
 use Rattle.marker_core.specs.Views.{times, marks_at, traces_at, IsNoted, view_at}
 use Rattle.marker_core.specs.Seats.{core_of}
-use Rattle.marker_core.specs.MarkerSeats.{MarkerSide, beside, marker_wants_word}
+use Rattle.marker_core.specs.MarkerSeats.{MarkerSide, seat_beside, marker_wants_word}
 use Rattle.marker_core.specs.Core.{IsCoreOk}
 use Rattle.marker_core.specs.MarkerFacts.{IsObjectHeader, MarkerMayFind, MarkerWordsMayBeFound, IsMarkerHand, IsMarkerOk, MarkersAreOk, LentWhileOn}
 use Rattle.marker_core.specs.RoleOrder.{value_after_key}
@@ -46,12 +46,12 @@ some_number : (n : ℕ) → (n ≡ 0 → ⊥) → 0 < n
 some_number n some = elim (cases_eq n 0) [ inl none ↦ absurd (some none) | inr other ↦ omega (arith, other) ]
 
 -- a pair's two words are among those of the declared fields
-pair_within : (types : List (List Kind)) (ty i : ℕ) → role_at (kinds_of types ty) i ≡ KeyWord → i + 1 < word_count (kinds_of types ty)
-pair_within types ty i role = refers_within (kinds_of types ty) (i + 1) (ap refers (value_after_key (kinds_of types ty) i role))
+pair_within : (types : List (List Kind)) (ty i : ℕ) → role_at (kinds_of_type types ty) i ≡ KeyWord → i + 1 < field_word_count (kinds_of_type types ty)
+pair_within types ty i role = refers_within (kinds_of_type types ty) (i + 1) (ap refers (value_after_key (kinds_of_type types ty) i role))
 
-module _ (v : MarkerSide) (m : MutatorView) (words : List ℕ) (markers : List MarkerView) (number : ℕ) (ok : IsCoreOk (core_of (beside v m) words markers)) (here : view_at markers number ≡ v.marker) (out : v.marker.spent ≡ false) where
+module _ (v : MarkerSide) (m : MutatorView) (words : List ℕ) (markers : List MarkerView) (number : ℕ) (ok : IsCoreOk (core_of (seat_beside v m) words markers)) (here : view_at markers number ≡ v.marker) (out : v.marker.spent ≡ false) where
   abbrev state : CoreState
-  state = core_of (beside v m) words markers
+  state = core_of (seat_beside v m) words markers
 
   abbrev marks : ℕ → ℕ
   marks = marks_at m markers
@@ -114,9 +114,9 @@ module _ (v : MarkerSide) (m : MutatorView) (words : List ℕ) (markers : List M
       let f = fits h own in
       let whole : IsWhole v.count v.types f.body = ok.bodies_are_whole f.body f.there in
       let past = f.past_serial in
-      let room : 2 + word_count (kinds_of v.types h.ty) ≤ f.body.size =
-      subst (λ ty. 2 + word_count (kinds_of v.types ty) ≤ f.body.size) f.ty whole.room in
-      let low = refers_within (kinds_of v.types h.ty) (h.next - 2) (traced_refers (role_at_hand v.types h) f.at_hand) in
+      let room : 2 + field_word_count (kinds_of_type v.types h.ty) ≤ f.body.size =
+      subst (λ ty. 2 + field_word_count (kinds_of_type v.types ty) ≤ f.body.size) f.ty whole.room in
+      let low = refers_within (kinds_of_type v.types h.ty) (h.next - 2) (traced_refers (role_at_hand v.types h) f.at_hand) in
       record {
         known_type = omega (arith, whole.ty, f.ty);
         past_serial = past;

@@ -15,7 +15,7 @@ use Rattle.marker_core.specs.Seats.{core_of}
 use Rattle.marker_core.specs.SeatSteps.{is_grey}
 use Rattle.marker_core.specs.SeatLaws.{exchanged}
 use Rattle.marker_core.specs.CycleSteps.{can_join}
-use Rattle.marker_core.specs.MarkerSeats.{MarkerSide, beside, marker_found_start, marker_polled, marker_looked, marker_claimed, marker_wants_word, marker_read, marker_wants_mark, marker_marked}
+use Rattle.marker_core.specs.MarkerSeats.{MarkerSide, seat_beside, marker_found_start, marker_polled, marker_looked, marker_claimed, marker_wants_word, marker_read, marker_wants_mark, marker_marked}
 use Rattle.marker_core.specs.MarkerSteps.{is_last}
 use Rattle.marker_core.specs.Step.{core_step}
 use Rattle.marker_core.specs.MarkerLaws.{BitsAreSteps, PollsAreSteps, LooksAreSteps, ClaimsAsAreSteps, FieldsAreSteps, MarksAsAreSteps, SplitsAreSteps, JoinsAreSteps}
@@ -29,7 +29,7 @@ taken_by allowed makes here own y e can same =
 
 -- the state with another view of this marker, whose words are these
 abbrev state_with : MarkerSide → MutatorView → List ℕ → List MarkerView → ℕ → MarkerView → CoreState
-state_with v m words markers k now = core_of (beside v m) words (set markers k now)
+state_with v m words markers k now = core_of (seat_beside v m) words (set markers k now)
 
 -- a word that is left as it was found
 word_left : (v : MarkerSide) (m : MutatorView) (words : List ℕ) (markers : List MarkerView) (k at : ℕ) (now : MarkerView)

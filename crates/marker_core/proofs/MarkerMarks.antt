@@ -11,7 +11,7 @@ use Rattle.marker_core.specs.declared.states.Part.TheVariants.{Read, Mark, Key, 
 use Rattle.marker_core.specs.Layout.{has_mark, is_marked}
 use Rattle.marker_core.specs.Bodies.{is_place, holds}
 use Rattle.marker_core.specs.Hands.{hand_moved, role_at_hand, wants_mark, wants, each_hand}
-use Rattle.marker_core.specs.MarkerSteps.{can_mark_as, marked_as}
+use Rattle.marker_core.specs.MarkerSteps.{can_mark_as, core_marked_as}
 use Rattle.marker_core.specs.Views.{times, marks_at, traces_at, IsHand, IsNoted, view_at}
 use Rattle.marker_core.specs.Tracing.{PartFits, HandFits}
 use Rattle.marker_core.specs.Core.{IsCoreOk}
@@ -149,7 +149,7 @@ module _ (s : CoreState) (ok : IsCoreOk s) (k a : ℕ) (h : Hand) (mine : (view_
       subst (λ gone. HandChanges old new gone (each_hand (hand_moved s.types) gone)) mine
       (marker_changes s.mutator s.markers k moved (is_there s ok k out))
 
-  marks_as : IsCoreOk (marked_as s k a)
+  marks_as : IsCoreOk (core_marked_as s k a)
   marks_as =
       let may = ok.may_is_closed on in
       let bodies = s.mutator.bodies in
@@ -197,7 +197,7 @@ module _ (s : CoreState) (ok : IsCoreOk s) (k a : ℕ) (h : Hand) (mine : (view_
         quiet = quiet_after s ok k out moved s.mutator.hand out (λ halted. ok.quiet_while_off.halted_views view (is_view s ok k out) halted);
       })
 
-pub mark_as_ok : (s : CoreState) → IsCoreOk s → (k a : ℕ) → can_mark_as s k a ≡ true → IsCoreOk (marked_as s k a)
+pub mark_as_ok : (s : CoreState) → IsCoreOk s → (k a : ℕ) → can_mark_as s k a ≡ true → IsCoreOk (core_marked_as s k a)
 mark_as_ok s ok k a can = elim (hand_or_none (view_at s.markers k).hand) [
   | inl none ↦ absurd (false≢true (sym (ap (wants (λ h. wants_mark h.part a)) none) ∙ can))
   | inr some ↦ marks_as s ok k a some.0 some.1 (sym (ap (wants (λ h. wants_mark h.part a)) some.1) ∙ can)

@@ -9,7 +9,7 @@ use Rattle.gc_graph.specs.declared.kind.Kind.{Kind}
 use Rattle.gc_graph.specs.declared.kind.Kind.TheVariants.{Strong, Weak, Pair, Plain}
 use Rattle.marker_core.specs.declared.states.Hand.{Hand}
 use Rattle.marker_core.specs.declared.states.Part.TheVariants.{Read}
-use Rattle.marker_core.specs.Bodies.{role_at, is_traced_role, kinds_of}
+use Rattle.marker_core.specs.Bodies.{role_at, is_traced_role, kinds_of_type}
 use Rattle.marker_core.specs.Hands.{traced_offsets, hand_past}
 
 abbrev next_past : ℕ → List ℕ → Option ℕ
@@ -88,7 +88,7 @@ pub record IsPast (types : List (List Kind)) (place ty offset : ℕ) (h : Hand) 
   pub is : h ≡ read_at place ty h.next
   pub past : offset < h.next
   pub past_serial : 2 ≤ h.next
-  pub at_hand : is_traced_role (role_at (kinds_of types ty) (h.next - 2)) ≡ true
+  pub at_hand : is_traced_role (role_at (kinds_of_type types ty) (h.next - 2)) ≡ true
 
 mapped : (f : ℕ → Hand) (o : Option ℕ) (h : Hand) → option_map f o ≡ Some h → (n : ℕ) × (o ≡ Some n) × (f n ≡ h)
 mapped f None h e = cc
@@ -96,19 +96,19 @@ mapped f (Some n) h e = (n, refl, same_Some (f n) h e)
 
 pub hand_past_is : (types : List (List Kind)) (place ty offset : ℕ) (h : Hand) → hand_past types place ty offset ≡ Some h → IsPast types place ty offset h
 hand_past_is types place ty offset h e =
-    let at = mapped (read_at place ty) (next_past offset (traced_offsets 2 (kinds_of types ty))) h e in
-    let found = found_past (kinds_of types ty) 2 offset at.0 at.1 in
+    let at = mapped (read_at place ty) (next_past offset (traced_offsets 2 (kinds_of_type types ty))) h e in
+    let found = found_past (kinds_of_type types ty) 2 offset at.0 at.1 in
     let next : at.0 ≡ h.next = ap (λ (g : Hand). g.next) at.2 in
     record {
       is = sym at.2 ∙ ap (read_at place ty) next;
       past = omega (arith, found.0);
       past_serial = omega (arith, found.1.1);
-      at_hand = ap (λ j. is_traced_role (role_at (kinds_of types ty) j)) (omega (arith, found.1.1)) ∙ found.1.2;
+      at_hand = ap (λ j. is_traced_role (role_at (kinds_of_type types ty) j)) (omega (arith, found.1.1)) ∙ found.1.2;
     }
 
 -- a traced word past the offset is at or past the next hand
-pub hand_past_finds : (types : List (List Kind)) (place ty offset i : ℕ) → is_traced_role (role_at (kinds_of types ty) i) ≡ true → offset < i + 2
+pub hand_past_finds : (types : List (List Kind)) (place ty offset i : ℕ) → is_traced_role (role_at (kinds_of_type types ty) i) ≡ true → offset < i + 2
     → (h : Hand) × (hand_past types place ty offset ≡ Some h) × (h.place ≡ place) × (h.next ≤ i + 2)
 hand_past_finds types place ty offset i role past =
-    let found = least_past (kinds_of types ty) 2 offset i role (omega arith) in
+    let found = least_past (kinds_of_type types ty) 2 offset i role (omega arith) in
     (read_at place ty found.0, ap (option_map (read_at place ty)) found.1, refl, omega (arith, found.2))

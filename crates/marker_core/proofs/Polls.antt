@@ -5,7 +5,7 @@ use Rattle.marker_core.specs.declared.states.CoreState.{CoreState}
 use Rattle.marker_core.specs.declared.states.MarkerView.{MarkerView}
 use Rattle.marker_core.specs.Layout.{is_start, stop_at}
 use Rattle.marker_core.specs.Bodies.{is_place, holds}
-use Rattle.marker_core.specs.MarkerSteps.{can_read_bit, bit_read, can_poll, polled, with_view}
+use Rattle.marker_core.specs.MarkerSteps.{can_read_bit, bit_read, can_poll, polled, with_marker_view}
 use Rattle.marker_core.specs.Views.{times, marks_at, traces_at, IsHand, IsNoted, view_at}
 use Rattle.marker_core.specs.Core.{IsCoreOk}
 use Rattle.marker_core.proofs.Members.{held_after}
@@ -15,7 +15,7 @@ use Rattle.marker_core.proofs.Retold.{retold_ok, is_view, is_on, sum_after, stil
 -- a view that differs in what it knows, missed and was told alone
 pub same_lists_ok : (s : CoreState) → IsCoreOk s → (k : ℕ) → (view_at s.markers k).spent ≡ false → (known missed : List ℕ) (halted : Bool)
     → ((a : ℕ) → holds known a ≡ true → is_place s.mutator.bodies a ≡ true) → (halted ≡ true → get_or s.words (stop_at s.count) 0 ≡ 1)
-    → IsCoreOk (with_view s k (record (view_at s.markers k) { known = known; missed = missed; halted = halted }))
+    → IsCoreOk (with_marker_view s k (record (view_at s.markers k) { known = known; missed = missed; halted = halted }))
 same_lists_ok s ok k out known missed halted knows halts =
     let view = view_at s.markers k in
     let now : MarkerView = record view { known = known; missed = missed; halted = halted } in

@@ -7,7 +7,7 @@ use Rattle.std.proofs.lemmas.List.{length-take, length-drop, get_or-take, get_or
 use Rattle.object_headers.specs.Layout.{header_word}
 use Rattle.marker_core.specs.declared.states.Body.{Body}
 use Rattle.marker_core.specs.declared.states.CoreState.{CoreState}
-use Rattle.marker_core.specs.Bodies.{word_count, kinds_of, refers, word_in, role_in, end_of, is_place}
+use Rattle.marker_core.specs.Bodies.{field_word_count, kinds_of_type, refers, word_in, role_in, end_of, is_place}
 use Rattle.marker_core.specs.MutatorSteps.{body_at, is_in_free_words, can_publish}
 use Rattle.marker_core.specs.SeatSteps.{overlaps, is_whole_object, is_new_serial}
 use Rattle.marker_core.specs.Matching.{IsWhole}
@@ -38,7 +38,7 @@ module _ (s : CoreState) (ok : IsCoreOk s) (a : ℕ) (can : can_publish s a ≡ 
   record Tells : Type 0 where
     header_is : header ≡ header_word true false false new.ty new.size
     ty : new.ty < length s.types
-    room : 2 + word_count (kinds_of s.types new.ty) ≤ new.size
+    room : 2 + field_word_count (kinds_of_type s.types new.ty) ≤ new.size
     size : new.size < 2 ^ 26
     nulls : list_all (λ i. not (refers (role_in s.types new i)) || eqb (word_in new i) 0) (range_with_len 0 (length new.fields)) ≡ true
 
@@ -51,7 +51,7 @@ module _ (s : CoreState) (ok : IsCoreOk s) (a : ℕ) (can : can_publish s a ≡ 
       record {
         header_is = eqb-true header (header_word true false false new.ty new.size) t1.0;
         ty = ltb-true new.ty (length s.types) t1.1;
-        room = leb-true (2 + word_count (kinds_of s.types new.ty)) new.size t2.1;
+        room = leb-true (2 + field_word_count (kinds_of_type s.types new.ty)) new.size t2.1;
         size = ltb-true new.size (2 ^ 26) t3.1;
         nulls = t4.1;
       }

@@ -11,9 +11,9 @@ use Rattle.marker_core.specs.declared.states.Body.{Body}
 use Rattle.marker_core.specs.declared.states.CoreState.{CoreState}
 use Rattle.marker_core.specs.declared.states.Role.TheVariants.{StrongWord, KeyWord}
 use Rattle.marker_core.specs.Layout.{is_start}
-use Rattle.marker_core.specs.Bodies.{kinds_of, refers, word_in, role_in, end_of, has_word, is_place, in_body, names_body, holds}
-use Rattle.marker_core.specs.MutatorSteps.{body_at, can_publish, published}
-use Rattle.marker_core.specs.Views.{marks_at, traces_at, IsHand, IsDone}
+use Rattle.marker_core.specs.Bodies.{kinds_of_type, refers, word_in, role_in, end_of, body_has_word, is_place, in_body, names_body, holds}
+use Rattle.marker_core.specs.MutatorSteps.{body_at, can_publish, core_published}
+use Rattle.marker_core.specs.Views.{marks_at, traces_at, IsHand, IsHeaderRead}
 use Rattle.marker_core.specs.Matching.{IsWhole}
 use Rattle.marker_core.specs.Tracing.{MayIsClosed}
 use Rattle.marker_core.specs.Core.{IsCoreOk}
@@ -48,7 +48,7 @@ module _ (s : CoreState) (ok : IsCoreOk s) (a : ℕ) (can : can_publish s a ≡ 
   traces = traces_at s.mutator s.markers
 
   abbrev may : List ℕ
-  may = (published s a).mutator.may
+  may = (core_published s a).mutator.may
 
   -- what is true of the old bodies and of the new one is true of each
   each_body : (P : Body → Type 0) → ((b : Body) → Contains bodies b → P b) → P fresh → (c : Body) → Contains now c → P c
@@ -120,7 +120,7 @@ module _ (s : CoreState) (ok : IsCoreOk s) (a : ℕ) (can : can_publish s a ≡ 
           (ap (is_place bodies) (sym same) ∙ named bodies (word_in b i) (all_name_bodies s ok on b i h r) some))
     ]
 
-    may_published : MayIsClosed s.types now marks traces s.mutator.pending may s.mutator.seen (IsHand s.mutator s.markers) (IsDone s.mutator s.markers)
+    may_published : MayIsClosed s.types now marks traces s.mutator.pending may s.mutator.seen (IsHand s.mutator s.markers) (IsHeaderRead s.mutator s.markers)
     may_published =
         let was = ok.may_is_closed on in
         record {
@@ -150,7 +150,7 @@ module _ (s : CoreState) (ok : IsCoreOk s) (a : ℕ) (can : can_publish s a ≡ 
               → holds may (word_in d (i + 1) - 1) ≡ true)
               (λ b hb member role null value. may_grows (word_in b (i + 1) - 1) (was.values b i hb (may_was b hb member) role null value))
               (λ member role null value.
-              absurd (omega (arith, new_null s ok a can (i + 1) (ap refers (value_after_key (kinds_of s.types fresh.ty) i role))))) c h;
+              absurd (omega (arith, new_null s ok a can (i + 1) (ap refers (value_after_key (kinds_of_type s.types fresh.ty) i role))))) c h;
           others = λ c i h. each_body
               (λ d. holds may d.place ≡ false → role_in s.types d i ≡ KeyWord → (word_in d i ≡ 0) ↔ (word_in d (i + 1) ≡ 0))
               (λ b hb out role.
@@ -161,10 +161,10 @@ module _ (s : CoreState) (ok : IsCoreOk s) (a : ℕ) (can : can_publish s a ≡ 
           done_are_traced = was.done_are_traced;
         }
 
-  pub published_state : IsCoreOk (published s a)
+  pub published_state : IsCoreOk (core_published s a)
   published_state =
       let below = a_below s ok a can in
-      let words : Besides s (published s a).words = bitmap_written s ok a _ below in
+      let words : Besides s (core_published s a).words = bitmap_written s ok a _ below in
       let size = two s ok a can in
       let whole = new_is_whole s ok a can in
       record {
@@ -178,37 +178,37 @@ module _ (s : CoreState) (ok : IsCoreOk s) (a : ℕ) (can : can_publish s a ≡ 
             all_pairs_push (λ (b c : Body). b.serial ≢ c.serial) bodies fresh ok.serials_differ
             (λ k d l. serial_differs s ok a can (get_or bodies k d) (Contains-get_or bodies k d l));
         headers_match = each_body
-            (λ c. get_or (published s a).words c.place 0 ≡ header_word true (ltb 0 (marks c.place)) (ltb 0 (traces c.place)) c.ty c.size)
+            (λ c. get_or (core_published s a).words c.place 0 ≡ header_word true (ltb 0 (marks c.place)) (ltb 0 (traces c.place)) c.ty c.size)
             words.headers
             (words.heap a below ∙ header_tells s ok a can
             ∙ ap (λ m. header_word true m false fresh.ty fresh.size) (sym (none_is_false (marks a) unmarked))
             ∙ ap (λ t. header_word true (ltb 0 (marks a)) t fresh.ty fresh.size) (sym (none_is_false (traces a) untraced)));
-        serials_match = each_body (λ c. get_or (published s a).words (c.place + 1) 0 ≡ c.serial) words.serials
+        serials_match = each_body (λ c. get_or (core_published s a).words (c.place + 1) 0 ≡ c.serial) words.serials
             (words.heap (a + 1) (omega (arith, whole.inside)));
         starts_match = λ p inside. elim (cases_eq p a) [
           | inl same ↦
-              subst (λ x. is_start s.count (published s a).words x ≡ is_place now x) (sym same)
+              subst (λ x. is_start s.count (core_published s a).words x ≡ is_place now x) (sym same)
               (start_is_set s ok a below ∙ sym place_here)
           | inr other ↦ other_start_set s ok a below p other ∙ ok.starts_match p inside ∙ sym (place_same p other)
         ];
-        fields_match = λ c i h. each_body (λ d. i < length d.fields → get_or (published s a).words (d.place + 2 + i) 0 ≡ word_in d i)
+        fields_match = λ c i h. each_body (λ d. i < length d.fields → get_or (core_published s a).words (d.place + 2 + i) 0 ≡ word_in d i)
             (λ b hb. words.fields b i hb)
             (λ l. words.heap (a + 2 + i) (omega (arith, whole.inside, whole.fields)) ∙ new_field s ok a can i l) c h;
         filled_match = record {
-          inside = λ f h. words.filled.inside f (was_in (λ (g : ℕ × ℕ). not (has_word g.0 fresh)) s.mutator.filled f h);
-          outside = λ f h. none_from (has_word f.0) now (λ c hc has.
+          inside = λ f h. words.filled.inside f (was_in (λ (g : ℕ × ℕ). not (body_has_word g.0 fresh)) s.mutator.filled f h);
+          outside = λ f h. none_from (body_has_word f.0) now (λ c hc has.
               elim (Contains-push_cases bodies fresh c hc) [
                 | inl was ↦
                     both_ways (in_body bodies f.0)
-                    (words.filled.outside f (was_in (λ (g : ℕ × ℕ). not (has_word g.0 fresh)) s.mutator.filled f h))
-                    (any_from (has_word f.0) bodies c was has)
+                    (words.filled.outside f (was_in (λ (g : ℕ × ℕ). not (body_has_word g.0 fresh)) s.mutator.filled f h))
+                    (any_from (body_has_word f.0) bodies c was has)
                 | inr same ↦
-                    both_ways (has_word f.0 fresh)
-                    (not-true (has_word f.0 fresh) (has_passed (λ (g : ℕ × ℕ). not (has_word g.0 fresh)) s.mutator.filled f h))
-                    (ap (has_word f.0) same ∙ has)
+                    both_ways (body_has_word f.0 fresh)
+                    (not-true (body_has_word f.0 fresh) (has_passed (λ (g : ℕ × ℕ). not (body_has_word g.0 fresh)) s.mutator.filled f h))
+                    (ap (body_has_word f.0) same ∙ has)
               ]);
-          word = λ f h. words.filled.word f (was_in (λ (g : ℕ × ℕ). not (has_word g.0 fresh)) s.mutator.filled f h);
-          once = AllPairs-filter (λ (f g : ℕ × ℕ). f.0 ≢ g.0) (λ (g : ℕ × ℕ). not (has_word g.0 fresh)) s.mutator.filled words.filled.once;
+          word = λ f h. words.filled.word f (was_in (λ (g : ℕ × ℕ). not (body_has_word g.0 fresh)) s.mutator.filled f h);
+          once = AllPairs-filter (λ (f g : ℕ × ℕ). f.0 ≢ g.0) (λ (g : ℕ × ℕ). not (body_has_word g.0 fresh)) s.mutator.filled words.filled.once;
         };
         references_name_bodies = λ c i h. each_body
             (λ d. holds s.mutator.dead d.place ≡ false → refers (role_in s.types d i) ≡ true → names_body now (word_in d i) ≡ true)
@@ -248,5 +248,5 @@ module _ (s : CoreState) (ok : IsCoreOk s) (a : ℕ) (can : can_publish s a ≡ 
         may_is_closed = may_published;
       }
 
-pub publish_ok : (s : CoreState) → IsCoreOk s → (a : ℕ) → can_publish s a ≡ true → IsCoreOk (published s a)
+pub publish_ok : (s : CoreState) → IsCoreOk s → (a : ℕ) → can_publish s a ≡ true → IsCoreOk (core_published s a)
 publish_ok s ok a can = published_state s ok a can

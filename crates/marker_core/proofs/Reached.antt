@@ -10,8 +10,8 @@ use Rattle.gc_graph.specs.Graph.{no_object, object_at, has, leads_by, leads_to}
 use Rattle.gc_graph.specs.Reach.{Reach, ReachIsLeast, IsLeastClosed}
 use Rattle.marker_core.specs.declared.states.Body.{Body}
 use Rattle.marker_core.specs.declared.states.Role.TheVariants.{StrongWord, KeyWord}
-use Rattle.marker_core.specs.Bodies.{kinds_of, word_in, role_in, refers, places, is_place, holds}
-use Rattle.marker_core.specs.Closed.{IsClosedOver, object_of, node_of, graph_of, reach_over}
+use Rattle.marker_core.specs.Bodies.{kinds_of_type, word_in, role_in, refers, places, is_place, holds}
+use Rattle.marker_core.specs.Closed.{IsClosedOver, object_of, address_node, address_graph, reach_over}
 use Rattle.marker_core.specs.Matching.{AreWhole, LieApart}
 use Rattle.marker_core.specs.Laws.{IsLeastOver, AllNameBodies, ReachOverIsLeast}
 use Rattle.gc_graph.specs.Members.{Contains-cons, Contains-head, was_in, has_passed, stays_in, Contains-map_some, Contains-map, holds_from, in_from_holds}
@@ -46,47 +46,47 @@ module _ (types : List (List Kind)) where
 
   pub edges : (test : ℕ → Bool) (b : Body) (n : ℕ) → leads_by test (object_of types b) n ≡ true → StrongTo b n ⊎ ValueTo test b n
   edges test b n h = elim (or_cases _ _ h) [
-    | inl strong ↦ inl (strong_edge (kinds_of types b.ty) b.fields n strong)
-    | inr pair ↦ (let e = pair_edge test (kinds_of types b.ty) b.fields n pair in
+    | inl strong ↦ inl (strong_edge (kinds_of_type types b.ty) b.fields n strong)
+    | inr pair ↦ (let e = pair_edge test (kinds_of_type types b.ty) b.fields n pair in
         let next : word_in b (e.0 + 1) ≡ get_or b.fields (suc e.0) 0 = ap (word_in b) (add-one e.0) in
         inr (e.0, e.1, e.2, e.3, omega (arith, e.4), omega (arith, e.5)))
   ]
 
   pub from_strong : (test : ℕ → Bool) (b : Body) (n : ℕ) → StrongTo b n → leads_by test (object_of types b) n ≡ true
-  from_strong test b n e = or_left _ _ (edge_strong (kinds_of types b.ty) b.fields e.0 n e.1 e.2 e.3)
+  from_strong test b n e = or_left _ _ (edge_strong (kinds_of_type types b.ty) b.fields e.0 n e.1 e.2 e.3)
 
   pub from_pair : (test : ℕ → Bool) (b : Body) (n : ℕ) → ValueTo test b n → leads_by test (object_of types b) n ≡ true
   from_pair test b n e =
       let next : word_in b (e.0 + 1) ≡ get_or b.fields (suc e.0) 0 = ap (word_in b) (add-one e.0) in
-      or_right _ _ (edge_pair test (kinds_of types b.ty) b.fields e.0 n e.1 e.2 e.3 (omega (arith, e.4)) (omega (arith, e.5)))
+      or_right _ _ (edge_pair test (kinds_of_type types b.ty) b.fields e.0 n e.1 e.2 e.3 (omega (arith, e.4)) (omega (arith, e.5)))
 
 module _ (count : ℕ) (types : List (List Kind)) (bodies : List Body) (whole : AreWhole count types bodies) (apart : LieApart bodies) where
   abbrev at_address : ℕ → Option Body
   at_address a = find (λ (b : Body). eqb b.place a) bodies
 
-  node_at : (m : ℕ) → m < count → object_at (graph_of count types bodies) m ≡ node_of types (at_address m)
-  node_at m below = get_or-map-range_with_len (λ a. node_of types (at_address a)) 0 count m m no_object below (omega arith)
+  node_at : (m : ℕ) → m < count → object_at (address_graph count types bodies) m ≡ address_node types (at_address m)
+  node_at m below = get_or-map-range_with_len (λ a. address_node types (at_address a)) 0 count m m no_object below (omega arith)
 
   -- a node is a body's, or leads nowhere
   pub node_cases : (m : ℕ)
-      → ((b : Body) × Contains bodies b × (b.place ≡ m) × (object_at (graph_of count types bodies) m ≡ object_of types b))
-      ⊎ (object_at (graph_of count types bodies) m ≡ no_object)
+      → ((b : Body) × Contains bodies b × (b.place ≡ m) × (object_at (address_graph count types bodies) m ≡ object_of types b))
+      ⊎ (object_at (address_graph count types bodies) m ≡ no_object)
   node_cases m = elim (cases_lt m count) [
     | inl below ↦ elim (found_or_none (λ (b : Body). eqb b.place m) bodies) [
-      | inl found ↦ inl (found.0, found.2, eqb-true found.0.place m found.3, node_at m below ∙ ap (node_of types) found.1)
-      | inr none ↦ inr (node_at m below ∙ ap (node_of types) none.0)
+      | inl found ↦ inl (found.0, found.2, eqb-true found.0.place m found.3, node_at m below ∙ ap (address_node types) found.1)
+      | inr none ↦ inr (node_at m below ∙ ap (address_node types) none.0)
     ]
-    | inr past ↦ (let long = length-map-range_with_len (λ a. node_of types (at_address a)) 0 count in
-        inr (get_or_past (graph_of count types bodies) m no_object (omega arith)))
+    | inr past ↦ (let long = length-map-range_with_len (λ a. address_node types (at_address a)) 0 count in
+        inr (get_or_past (address_graph count types bodies) m no_object (omega arith)))
   ]
 
-  pub body_node : (b : Body) → Contains bodies b → object_at (graph_of count types bodies) b.place ≡ object_of types b
+  pub body_node : (b : Body) → Contains bodies b → object_at (address_graph count types bodies) b.place ≡ object_of types b
   body_node b h =
       let below = place_below count types bodies b.place whole (place_of_body bodies b b.place h refl) in
       elim (found_or_none (λ (c : Body). eqb c.place b.place) bodies) [
         | inl found ↦
             (let same : found.0 ≡ b = same_place count types bodies whole apart found.0 b found.2 h (eqb-true found.0.place b.place found.3) in
-            node_at b.place below ∙ ap (node_of types) (found.1 ∙ ap (λ c. Some c) same))
+            node_at b.place below ∙ ap (address_node types) (found.1 ∙ ap (λ c. Some c) same))
         | inr none ↦ absurd (both_ways (is_place bodies b.place) none.1 (place_of_body bodies b b.place h refl))
       ]
 
@@ -99,10 +99,10 @@ module _ (count : ℕ) (types : List (List Kind)) (bodies : List Body) (whole : 
           (named bodies (word_in b e.0) (names b e.0 h (ap refers e.1)) e.2)
       | inr e ↦
           subst (λ x. is_place bodies x ≡ true) e.5
-          (named bodies (word_in b (e.0 + 1)) (names b (e.0 + 1) h (ap refers (value_after_key (kinds_of types b.ty) e.0 e.1))) e.4)
+          (named bodies (word_in b (e.0 + 1)) (names b (e.0 + 1) h (ap refers (value_after_key (kinds_of_type types b.ty) e.0 e.1))) e.4)
     ]
 
-    edge_below : (test : ℕ → Bool) (m n : ℕ) → leads_by test (object_at (graph_of count types bodies) m) n ≡ true → n < count
+    edge_below : (test : ℕ → Bool) (m n : ℕ) → leads_by test (object_at (address_graph count types bodies) m) n ≡ true → n < count
     edge_below test m n leads = elim (node_cases m) [
       | inl b ↦
           place_below count types bodies n whole
@@ -110,8 +110,8 @@ module _ (count : ℕ) (types : List (List Kind)) (bodies : List Body) (whole : 
       | inr none ↦ absurd (false≢true (subst (λ o. leads_by test o n ≡ true) none leads))
     ]
 
-    graph_length : length (graph_of count types bodies) ≡ count
-    graph_length = length-map-range_with_len (λ a. node_of types (at_address a)) 0 count
+    graph_length : length (address_graph count types bodies) ≡ count
+    graph_length = length-map-range_with_len (λ a. address_node types (at_address a)) 0 count
 
     -- ---- a set of places among the flags
 
@@ -129,7 +129,7 @@ module _ (count : ℕ) (types : List (List Kind)) (bodies : List Body) (whole : 
 
     -- ---- closed flags, and closed tests
 
-    flags_close : (flags : List Bool) → ((m n : ℕ) → has flags m ≡ true → leads_to flags (object_at (graph_of count types bodies) m) n ≡ true → has flags n ≡ true)
+    flags_close : (flags : List Bool) → ((m n : ℕ) → has flags m ≡ true → leads_to flags (object_at (address_graph count types bodies) m) n ≡ true → has flags n ≡ true)
         → IsClosedOver types bodies (holds (filter (has flags) (places bodies)))
     flags_close flags closed = record {
       strong = λ b i h member role some.
@@ -162,7 +162,7 @@ module _ (count : ℕ) (types : List (List Kind)) (bodies : List Body) (whole : 
     ]
 
     test_closes : (test : ℕ → Bool) → IsClosedOver types bodies test → (m n : ℕ) → has (flags_of test) m ≡ true
-        → leads_to (flags_of test) (object_at (graph_of count types bodies) m) n ≡ true → has (flags_of test) n ≡ true
+        → leads_to (flags_of test) (object_at (address_graph count types bodies) m) n ≡ true → has (flags_of test) n ≡ true
     test_closes test closed m n flag leads = elim (node_cases m) [
       | inr none ↦ absurd (false≢true (subst (λ o. leads_to (flags_of test) o n ≡ true) none leads))
       | inl b ↦
@@ -183,11 +183,11 @@ module _ (count : ℕ) (types : List (List Kind)) (bodies : List Body) (whole : 
     abbrev rooted : List ℕ → List ℕ
     rooted roots = filter (is_place bodies) roots
 
-    least_over : (roots : List ℕ) → IsLeastClosed (graph_of count types bodies) (rooted roots) (Reach (graph_of count types bodies) (rooted roots))
+    least_over : (roots : List ℕ) → IsLeastClosed (address_graph count types bodies) (rooted roots) (Reach (address_graph count types bodies) (rooted roots))
         → IsLeastOver types bodies roots (reach_over count types bodies roots)
     unfolding reach_over
     least_over roots law =
-        let flags = Reach (graph_of count types bodies) (rooted roots) in
+        let flags = Reach (address_graph count types bodies) (rooted roots) in
         record {
           closed = flags_close flags law.closed;
           places = λ a h. (in_set flags a h).1;
@@ -212,7 +212,7 @@ pub reach_over_law : ReachIsLeast → ReachOverIsLeast
 reach_over_law law count types bodies roots whole apart names =
     let long = graph_length count types bodies whole apart names in
     least_over count types bodies whole apart names roots
-    (law (graph_of count types bodies) (filter (is_place bodies) roots)
+    (law (address_graph count types bodies) (filter (is_place bodies) roots)
     (λ set m n leads. omega (arith, edge_below count types bodies whole apart names (has set) m n leads))
     (λ n root.
     let place = has_passed (is_place bodies) roots n (in_from_holds (filter (is_place bodies) roots) n root) in

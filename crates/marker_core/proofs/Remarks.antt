@@ -8,7 +8,7 @@ use Rattle.marker_core.specs.declared.states.CoreState.{CoreState}
 use Rattle.marker_core.specs.declared.states.Hand.{Hand}
 use Rattle.marker_core.specs.declared.states.Part.{Part}
 use Rattle.marker_core.specs.declared.states.Part.TheVariants.{Read, Mark, Key, Value}
-use Rattle.marker_core.specs.Bodies.{role_at, kinds_of, role_in, is_place, holds}
+use Rattle.marker_core.specs.Bodies.{role_at, kinds_of_type, role_in, is_place, holds}
 use Rattle.marker_core.specs.Hands.{role_at_hand, wants_mark}
 use Rattle.marker_core.specs.Views.{marks_at, traces_at}
 use Rattle.marker_core.specs.Tracing.{IsCovered, PartFits, HandFits, marking_word, TracedAreMarked, MarksCountedOnce}
@@ -94,7 +94,7 @@ module _ (s : CoreState) (ok : IsCoreOk s) (on : s.mutator.on ≡ true) (a : ℕ
         in
         let number : h.next - 2 ≡ i = omega arith in
         let role : role_at_hand s.types h ≡ role_in s.types b i =
-        ap (λ ty. role_at (kinds_of s.types ty) (h.next - 2)) (sym fits.ty ∙ ap (λ (c : Body). c.ty) body) ∙ ap (role_in s.types b) number
+        ap (λ ty. role_at (kinds_of_type s.types ty) (h.next - 2)) (sym fits.ty ∙ ap (λ (c : Body). c.ty) body) ∙ ap (role_in s.types b) number
         in
         let here : IsCovered now later (marking_word (role_in s.types b i) b i) =
         subst (λ r. IsCovered now later (marking_word r b i)) role

@@ -13,7 +13,7 @@ use Rattle.marker_core.specs.declared.states.MarkerView.{MarkerView}
 use Rattle.marker_core.specs.declared.states.MutatorView.{MutatorView}
 use Rattle.marker_core.specs.Layout.{stop_at}
 use Rattle.marker_core.specs.Bodies.{is_place, holds}
-use Rattle.marker_core.specs.Views.{marks_at, traces_at, IsHand, IsNoted, IsDone, spent_view, view_at}
+use Rattle.marker_core.specs.Views.{marks_at, traces_at, IsHand, IsNoted, IsHeaderRead, spent_view, view_at}
 use Rattle.marker_core.specs.Matching.{HeadersMatch, QuietWhileOff}
 use Rattle.marker_core.specs.Tracing.{StrongAccounted, PairsAccounted, IsPairAt, NotedArePairs, HandFits, HandsAreBodies, IsLoaded, MayIsClosed, TracedAreMarked, MarksCountedOnce}
 use Rattle.marker_core.specs.Core.{IsCoreOk}
@@ -38,7 +38,7 @@ module _ (s : CoreState) (m : MutatorView) (views : List MarkerView) where
     pub fits : (h : Hand) → IsHand m views h → HandFits s.types s.mutator.bodies marks s.mutator.pending s.mutator.may h
     pub hands_in : (h : Hand) → IsHand m views h → holds s.mutator.may h.place ≡ true
     pub loaded_in : (h : Hand) (t : ℕ) → IsHand m views h → IsLoaded h.part t → holds s.mutator.may t ≡ true
-    pub done : (x : ℕ) → IsDone m views x → 0 < traces x
+    pub done : (x : ℕ) → IsHeaderRead m views x → 0 < traces x
     pub quiet : QuietWhileOff s.mutator.on s.mutator.pending m.hand s.mutator.dead m.lent views (get_or s.words (stop_at s.count) 0)
 
 -- the mutator's view with other lists of its own
@@ -85,8 +85,8 @@ retold_ok s ok on marked traced noted done missed lent views tells =
           subst (λ k. HandsAreBodies s.types s.mutator.bodies k s.mutator.pending s.mutator.may (IsHand m views) views) e
           (record { known = tells.known; hands = tells.fits });
       may_is_closed = λ _.
-          subst (λ k. MayIsClosed s.types s.mutator.bodies k (traces_at m views) s.mutator.pending s.mutator.may s.mutator.seen (IsHand m views) (IsDone m views)) e
-          (subst (λ k. MayIsClosed s.types s.mutator.bodies was k s.mutator.pending s.mutator.may s.mutator.seen (IsHand m views) (IsDone m views)) f
+          subst (λ k. MayIsClosed s.types s.mutator.bodies k (traces_at m views) s.mutator.pending s.mutator.may s.mutator.seen (IsHand m views) (IsHeaderRead m views)) e
+          (subst (λ k. MayIsClosed s.types s.mutator.bodies was k s.mutator.pending s.mutator.may s.mutator.seen (IsHand m views) (IsHeaderRead m views)) f
           (record {
             are_places = may.are_places;
             closed = may.closed;
@@ -199,7 +199,7 @@ module _ (s : CoreState) (ok : IsCoreOk s) (k : ℕ) (out : (view_at s.markers k
       | inr was ↦ ok.hands_are_bodies.known v a was known
     ]
 
-    pub done_after : ((a : ℕ) → holds now.done a ≡ true → 0 < traces_at s.mutator s.markers a) → (x : ℕ) → IsDone s.mutator views x
+    pub done_after : ((a : ℕ) → holds now.done a ≡ true → 0 < traces_at s.mutator s.markers a) → (x : ℕ) → IsHeaderRead s.mutator views x
         → 0 < traces_at s.mutator s.markers x
     done_after own x done = elim done [
       | inl mine ↦ (ok.may_is_closed is_on).done_are_traced x (inl mine)
@@ -240,7 +240,7 @@ pub record Rewrites (s : CoreState) (words : List ℕ) (views : List MarkerView)
   pub hands : HandsAreBodies s.types s.mutator.bodies marks s.mutator.pending s.mutator.may (IsHand s.mutator views) views
   pub may :
       MayIsClosed s.types s.mutator.bodies marks traces s.mutator.pending s.mutator.may s.mutator.seen (IsHand s.mutator views)
-      (IsDone s.mutator views)
+      (IsHeaderRead s.mutator views)
   pub quiet : QuietWhileOff s.mutator.on s.mutator.pending s.mutator.hand s.mutator.dead s.mutator.lent views (get_or s.words (stop_at s.count) 0)
 
 pub rewritten_ok : (s : CoreState) → IsCoreOk s → (words : List ℕ) (views : List MarkerView) (marks traces : ℕ → ℕ)

@@ -6,9 +6,9 @@ use Rattle.std.proofs.lemmas.Bool.{cases_Bool, cases_eq, both_ways, and_parts, a
 use Rattle.std.proofs.lemmas.List.Kept.{AllPairs-filter}
 use Rattle.marker_core.specs.declared.states.Body.{Body}
 use Rattle.marker_core.specs.declared.states.CoreState.{CoreState}
-use Rattle.marker_core.specs.Bodies.{refers, word_in, role_in, end_of, has_word, is_place, in_body, names_body, refers_to, holds, without}
+use Rattle.marker_core.specs.Bodies.{refers, word_in, role_in, end_of, body_has_word, is_place, in_body, names_body, refers_to, holds, without}
 use Rattle.marker_core.specs.Layout.{is_start}
-use Rattle.marker_core.specs.MutatorSteps.{can_retract, retracted}
+use Rattle.marker_core.specs.MutatorSteps.{can_retract, core_retracted}
 use Rattle.marker_core.specs.Views.{marks_at}
 use Rattle.marker_core.specs.Core.{IsCoreOk}
 use Rattle.marker_core.proofs.Members.{none_passes, none_from}
@@ -86,10 +86,10 @@ module _ (s : CoreState) (ok : IsCoreOk s) (a : ℕ) (off : s.mutator.on ≡ fal
         ]
       ]
 
-  pub retracted_state : IsCoreOk (retracted s a)
+  pub retracted_state : IsCoreOk (core_retracted s a)
   retracted_state =
       let below : a < s.count = place_below s.count s.types bodies a ok.bodies_are_whole unmarked.0 in
-      let words : Besides s (retracted s a).words = bitmap_written s ok a _ below in
+      let words : Besides s (core_retracted s a).words = bitmap_written s ok a _ below in
       record {
         are_types = ok.are_types;
         has_room = words.room;
@@ -100,15 +100,15 @@ module _ (s : CoreState) (ok : IsCoreOk s) (a : ℕ) (off : s.mutator.on ≡ fal
         serials_match = λ b h. words.serials b (was_body b h);
         starts_match = λ p inside. elim (cases_eq p a) [
           | inl same ↦
-              subst (λ x. is_start s.count (retracted s a).words x ≡ is_place now x) (sym same)
+              subst (λ x. is_start s.count (core_retracted s a).words x ≡ is_place now x) (sym same)
               (start_is_cleared s ok a below ∙ sym place_gone)
           | inr other ↦ other_start_cleared s ok a below p other ∙ ok.starts_match p inside ∙ sym (place_same p other)
         ];
         fields_match = λ b i h. words.fields b i (was_body b h);
         filled_match = record {
           inside = words.filled.inside;
-          outside = λ f h. none_from (has_word f.0) now (λ b hb has.
-              both_ways (in_body bodies f.0) (words.filled.outside f h) (any_from (has_word f.0) bodies b (was_body b hb) has));
+          outside = λ f h. none_from (body_has_word f.0) now (λ b hb has.
+              both_ways (in_body bodies f.0) (words.filled.outside f h) (any_from (body_has_word f.0) bodies b (was_body b hb) has));
           word = words.filled.word;
           once = words.filled.once;
         };
@@ -142,7 +142,7 @@ module _ (s : CoreState) (ok : IsCoreOk s) (a : ℕ) (off : s.mutator.on ≡ fal
         may_is_closed = λ on. absurd (both_ways s.mutator.on off on);
       }
 
-pub retract_ok : (s : CoreState) → IsCoreOk s → (a : ℕ) → can_retract s a ≡ true → IsCoreOk (retracted s a)
+pub retract_ok : (s : CoreState) → IsCoreOk s → (a : ℕ) → can_retract s a ≡ true → IsCoreOk (core_retracted s a)
 retract_ok s ok a can =
     let some = list_any (λ b. not (holds s.mutator.dead b.place) && refers_to s.types a b) s.mutator.bodies in
     let tests = and_parts (not s.mutator.on && holds s.mutator.dead a) (not some) can in

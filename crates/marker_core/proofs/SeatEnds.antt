@@ -11,12 +11,12 @@ use Rattle.marker_core.specs.declared.states.MutatorView.{MutatorView}
 use Rattle.marker_core.specs.declared.states.Role.{Role}
 use Rattle.marker_core.specs.declared.states.Role.TheVariants.{StrongWord, WeakWord, KeyWord, ValueWord, PlainWord}
 use Rattle.marker_core.specs.Layout.{stop_at, is_marked, is_traced}
-use Rattle.marker_core.specs.Bodies.{refers, kinds_of, word_in, role_in, places, is_place, names_body, holds}
+use Rattle.marker_core.specs.Bodies.{refers, kinds_of_type, word_in, role_in, places, is_place, names_body, holds}
 use Rattle.marker_core.specs.Closed.{word_closes, body_closes, closes_over}
 use Rattle.marker_core.specs.Views.{times, marks_at, traces_at}
 use Rattle.marker_core.specs.Seats.{SeatSide, core_of, with_view}
 use Rattle.marker_core.specs.SeatSteps.{seat_can_end, unmarked_places, ended_with, seat_ended}
-use Rattle.marker_core.specs.CycleSteps.{can_end, ended, stopped, unmarked_places as unmarked_of}
+use Rattle.marker_core.specs.CycleSteps.{can_end, core_ended, core_stopped, core_unmarked_places}
 use Rattle.marker_core.specs.Step.{core_step}
 use Rattle.marker_core.specs.Core.{IsCoreOk}
 use Rattle.marker_core.specs.SeatLaws.{seat_ends, StopsAreSteps}
@@ -127,7 +127,7 @@ module _ (v : SeatSide) (words : List ℕ) (markers : List MarkerView) (ok : IsC
       (λ a h. let place = listed_place a h in
       ap (λ t. not t || is_traced words a) (marked_same a place) ∙ ap (λ t. not (holds v.mutator.marked a) || t) (traced_same a place))
 
-  dead_same : unmarked_of (core_of v words markers) ≡ unmarked_places v
+  dead_same : core_unmarked_places (core_of v words markers) ≡ unmarked_places v
   dead_same =
       filter_same (λ a. not (is_marked words a)) (λ a. not (holds v.mutator.marked a)) (places bodies)
       (λ a h. ap not (marked_same a (listed_place a h)))
@@ -145,7 +145,7 @@ module _ (v : SeatSide) (words : List ℕ) (markers : List MarkerView) (ok : IsC
       (λ i. word_closes (holds v.mutator.marked) (role_in v.types b i) (word_in b i) (word_in b (i + 1))) (range_with_len 0 (length b.fields))
       (λ i _. word_same v.mutator.bodies (is_marked words) (holds v.mutator.marked) (marked_same v words markers ok lent) (role_in v.types b i) (word_in b i) (word_in b (i + 1))
       (names b i h)
-      (λ key. names b (i + 1) h (ap refers (value_after_key (kinds_of v.types b.ty) i key)))))
+      (λ key. names b (i + 1) h (ap refers (value_after_key (kinds_of_type v.types b.ty) i key)))))
 
   end_same : can_end (core_of v words markers) ≡ seat_can_end v
   end_same =
@@ -165,12 +165,12 @@ stops_are_steps v roots can words markers ok =
       | inl ends ↦
           (let both = and_parts v.mutator.on (eqb v.mutator.lent 0) ends in
           let lent = eqb-true v.mutator.lent 0 both.1 in
-          taken (cond (seat_ends v) (can_end s) true) (cond (seat_ends v) (ended s) (stopped s)) _
+          taken (cond (seat_ends v) (can_end s) true) (cond (seat_ends v) (core_ended s) (core_stopped s)) _
           (cond-true (seat_ends v) (can_end s) true ends ∙ end_same v words markers ok both.0 lent ∙ can ends)
-          (cond-true (seat_ends v) (ended s) (stopped s) ends
+          (cond-true (seat_ends v) (core_ended s) (core_stopped s) ends
           ∙ ap (λ dead. to (ended_with v dead)) (dead_same v words markers ok lent)
           ∙ ap to (sym (cond-true (seat_ends v) (seat_ended v) v.mutator ends))))
       | inr goes_on ↦
-          taken (cond (seat_ends v) (can_end s) true) (cond (seat_ends v) (ended s) (stopped s)) _ (cond-false (seat_ends v) (can_end s) true goes_on)
-          (cond-false (seat_ends v) (ended s) (stopped s) goes_on ∙ ap to (sym (cond-false (seat_ends v) (seat_ended v) v.mutator goes_on)))
+          taken (cond (seat_ends v) (can_end s) true) (cond (seat_ends v) (core_ended s) (core_stopped s)) _ (cond-false (seat_ends v) (can_end s) true goes_on)
+          (cond-false (seat_ends v) (core_ended s) (core_stopped s) goes_on ∙ ap to (sym (cond-false (seat_ends v) (seat_ended v) v.mutator goes_on)))
     ]

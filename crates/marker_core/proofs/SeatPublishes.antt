@@ -9,13 +9,13 @@ use Rattle.object_headers.specs.Layout.{header_word}
 use Rattle.marker_core.specs.declared.states.Body.{Body}
 use Rattle.marker_core.specs.declared.states.MarkerView.{MarkerView}
 use Rattle.marker_core.specs.Layout.{type_in, size_in, with_start}
-use Rattle.marker_core.specs.Bodies.{word_count, refers, kinds_of, word_in, role_in, end_of, has_word, in_body}
+use Rattle.marker_core.specs.Bodies.{field_word_count, refers, kinds_of_type, word_in, role_in, end_of, body_has_word, in_body}
 use Rattle.marker_core.specs.Seats.{SeatSide, core_of, with_view}
 use Rattle.marker_core.specs.SeatSteps.{overlaps, is_whole_object, is_new_serial, seat_published}
 use Rattle.marker_core.specs.MutatorSteps.{body_at, is_in_free_words, can_publish}
 use Rattle.marker_core.specs.Step.{core_step}
 use Rattle.marker_core.specs.Core.{IsCoreOk}
-use Rattle.marker_core.specs.SeatLaws.{IsReady, PublishesAreSteps}
+use Rattle.marker_core.specs.SeatLaws.{IsReadyToPublish, PublishesAreSteps}
 use Rattle.marker_core.proofs.Members.{none_from}
 use Rattle.marker_core.proofs.Headers.{type_of_header}
 use Rattle.marker_core.proofs.SeatSteps.{taken}
@@ -32,7 +32,7 @@ all_from p xs each = all_same p (λ x. true) xs each ∙ all_true xs
 size_of_header : (ty size : ℕ) → ty < 16384 → size_in (header_word true false false ty size) ≡ size
 size_of_header ty size small = omega arith
 
-module _ (v : SeatSide) (words : List ℕ) (markers : List MarkerView) (ok : IsCoreOk (core_of v words markers)) (b : Body) (ready : IsReady v b) where
+module _ (v : SeatSide) (words : List ℕ) (markers : List MarkerView) (ok : IsCoreOk (core_of v words markers)) (b : Body) (ready : IsReadyToPublish v b) where
   abbrev header : ℕ
   header = get_or words b.place 0
 
@@ -103,7 +103,7 @@ module _ (v : SeatSide) (words : List ℕ) (markers : List MarkerView) (ok : IsC
       (and_from _ _
       (and_from _ _
       (and_from _ _ (eq-eqb header (header_word true false false b.ty b.size) header_is) (lt-ltb b.ty (length v.types) ready.whole.ty))
-      (le-leb (2 + word_count (kinds_of v.types b.ty)) b.size ready.whole.room))
+      (le-leb (2 + field_word_count (kinds_of_type v.types b.ty)) b.size ready.whole.room))
       (lt-ltb b.size (2 ^ 26) ready.whole.size))
       (all_from (λ i. not (refers (role_in v.types b i)) || eqb (word_in b i) 0) (range_with_len 0 (length b.fields)) null_test)
 
@@ -111,7 +111,7 @@ module _ (v : SeatSide) (words : List ℕ) (markers : List MarkerView) (ok : IsC
   word_shared : (a : ℕ) (c : Body) → Contains v.mutator.bodies c → b.place ≤ a → a < end_of b → c.place ≤ a → a < end_of c → ⊥
   word_shared a c h low high from to =
       both_ways (in_body v.mutator.bodies a) (ready.apart a low high)
-      (any_from (has_word a) v.mutator.bodies c h (and_from (leb c.place a) (ltb a (end_of c)) (le-leb c.place a from) (lt-ltb a (end_of c) to)))
+      (any_from (body_has_word a) v.mutator.bodies c h (and_from (leb c.place a) (ltb a (end_of c)) (le-leb c.place a from) (lt-ltb a (end_of c) to)))
 
   none_overlaps : list_any (overlaps b) v.mutator.bodies ≡ false
   none_overlaps = none_from (overlaps b) v.mutator.bodies (λ c h shares.

@@ -11,7 +11,7 @@ use Rattle.marker_core.specs.Bodies.{is_place}
 use Rattle.marker_core.specs.Views.{marks_at, traces_at}
 use Rattle.marker_core.specs.Seats.{SeatSide, core_of, with_view}
 use Rattle.marker_core.specs.SeatSteps.{seat_can_load, seat_loaded, seat_can_fill, seat_can_store, seat_can_retract, seat_can_mark, seat_can_claim, is_grey, seat_claimed, seat_can_unmark, seat_can_begin}
-use Rattle.marker_core.specs.MutatorSteps.{loaded, claimed}
+use Rattle.marker_core.specs.MutatorSteps.{core_loaded, claimed}
 use Rattle.marker_core.specs.Step.{core_step}
 use Rattle.marker_core.specs.Core.{IsCoreOk}
 use Rattle.marker_core.specs.SeatLaws.{LoadsAreSteps, FillsAreSteps, StoresAreSteps, RetractsAreSteps, MarksAreSteps, IsGreyHeader, exchanged, ClaimsAreSteps, UnmarksAreSteps, BeginsAreSteps}
@@ -25,7 +25,7 @@ taken allowed x y can same = cond-true allowed (Some x) None can ∙ ap (λ (s :
 pub loads_are_steps : LoadsAreSteps
 unfolding core_step
 loads_are_steps v a why can words markers ok =
-    taken (seat_can_load v a why) (loaded (core_of v words markers) a why) _ can
+    taken (seat_can_load v a why) (core_loaded (core_of v words markers) a why) _ can
     (ap (λ ws. core_of (with_view v (seat_loaded v a why (get_or words a 0))) ws markers) (sym (set-get_or words a 0)))
 
 pub fills_are_steps : FillsAreSteps

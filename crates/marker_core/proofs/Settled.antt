@@ -7,12 +7,12 @@ use Rattle.marker_core.specs.Views.{marks_at, IsHand}
 use Rattle.marker_core.specs.Closed.{IsClosedOver}
 use Rattle.marker_core.specs.Tracing.{IsCovered, IsInHand}
 use Rattle.marker_core.specs.Core.{IsCoreOk}
-use Rattle.marker_core.specs.Laws.{IsSettled, is_marked_in, SettledHasEnded}
+use Rattle.marker_core.specs.Laws.{IsMarkingSettled, is_marked_in, SettledHasEnded}
 use Rattle.marker_core.proofs.Counts.{some_is_true, true_is_some}
 use Rattle.marker_core.proofs.Reached.{reach_over_law}
 use Rattle.marker_core.proofs.Turns.{all_name_bodies}
 
-module _ (s : CoreState) (ok : IsCoreOk s) (ends : IsSettled s) where
+module _ (s : CoreState) (ok : IsCoreOk s) (ends : IsMarkingSettled s) where
   abbrev marks : ℕ → ℕ
   marks = marks_at s.mutator s.markers
 

@@ -17,7 +17,7 @@ use Rattle.marker_core.specs.Layout.{stop_at, bitmap_at, bit_is_set, is_marked}
 use Rattle.marker_core.specs.Bodies.{word_in, role_in, refers, places, is_place, holds}
 use Rattle.marker_core.specs.Closed.{reach_over}
 use Rattle.marker_core.specs.Views.{times, marks_at, traces_at, IsHand, IsNoted}
-use Rattle.marker_core.specs.CycleSteps.{can_begin, begun, stopped, ends, can_end, unmarked_places, ended}
+use Rattle.marker_core.specs.CycleSteps.{can_begin, core_begun, core_stopped, ends, can_end, core_unmarked_places, core_ended}
 use Rattle.marker_core.specs.SeatSteps.{pair_is_whole, pairs_are_whole}
 use Rattle.marker_core.specs.Core.{IsCoreOk}
 use Rattle.marker_core.specs.Laws.{AllNameBodies, IsLeastOver}
@@ -69,7 +69,7 @@ stop_written s ok w =
 
 -- ---- the markers are told to stop
 
-pub stopped_ok : (s : CoreState) → IsCoreOk s → IsCoreOk (stopped s)
+pub stopped_ok : (s : CoreState) → IsCoreOk s → IsCoreOk (core_stopped s)
 stopped_ok s ok =
     let written = stop_written s ok 1 in
     record {
@@ -123,9 +123,9 @@ module _ (s : CoreState) (ok : IsCoreOk s) (on : s.mutator.on ≡ true) (lent : 
   spent = all_spent s ok lent
 
   -- what is dead then is an unmarked body
-  dead_unmarked : (a : ℕ) → holds (unmarked_places s) a ≡ true → (is_place s.mutator.bodies a ≡ true) × (marks_at s.mutator s.markers a ≡ 0)
+  dead_unmarked : (a : ℕ) → holds (core_unmarked_places s) a ≡ true → (is_place s.mutator.bodies a ≡ true) × (marks_at s.mutator s.markers a ≡ 0)
   dead_unmarked a dead =
-      let there = in_from_holds (unmarked_places s) a dead in
+      let there = in_from_holds (core_unmarked_places s) a dead in
       let body = Contains-map_some (λ (b : Body). b.place) s.mutator.bodies a (was_in (λ p. not (is_marked s.words p)) (places s.mutator.bodies) a there) in
       let unmarked = not-true (is_marked s.words a) (has_passed (λ p. not (is_marked s.words p)) (places s.mutator.bodies) a there) in
       let tells = mark_tells s.words (marks_at s.mutator s.markers) (traces_at s.mutator s.markers) s.mutator.bodies ok.headers_match body.0 body.1 in
@@ -134,7 +134,7 @@ module _ (s : CoreState) (ok : IsCoreOk s) (on : s.mutator.on ≡ true) (lent : 
         ap (marks_at s.mutator s.markers) (sym body.2) ∙ false_is_none (marks_at s.mutator s.markers body.0.place) none,
       )
 
-  pub ended_state : IsCoreOk (ended s)
+  pub ended_state : IsCoreOk (core_ended s)
   ended_state =
       let written = stop_written s ok 1 in
       record {
@@ -172,7 +172,7 @@ module _ (s : CoreState) (ok : IsCoreOk s) (on : s.mutator.on ≡ true) (lent : 
         may_is_closed = λ e. absurd (false≢true e);
       }
 
-pub end_ok : (s : CoreState) → IsCoreOk s → ends s ≡ true → can_end s ≡ true → IsCoreOk (ended s)
+pub end_ok : (s : CoreState) → IsCoreOk s → ends s ≡ true → can_end s ≡ true → IsCoreOk (core_ended s)
 end_ok s ok ending can =
     let tests = and_parts s.mutator.on (eqb s.mutator.lent 0) ending in
     let first = and_parts _ _ can in
@@ -227,7 +227,7 @@ module _ (s : CoreState) (ok : IsCoreOk s) (off : s.mutator.on ≡ false) (unmar
     | inr other ↦ nothing_noted s ok spent_now p offset other
   ]
 
-  pub begun_state : IsLeastOver s.types s.mutator.bodies roots may → IsCoreOk (begun s roots)
+  pub begun_state : IsLeastOver s.types s.mutator.bodies roots may → IsCoreOk (core_begun s roots)
   begun_state least =
       let written = stop_written s ok 0 in
       record {
@@ -278,7 +278,7 @@ module _ (s : CoreState) (ok : IsCoreOk s) (off : s.mutator.on ≡ false) (unmar
         };
       }
 
-pub begin_ok : ReachIsLeast → (s : CoreState) → IsCoreOk s → (roots : List ℕ) → can_begin s ≡ true → IsCoreOk (begun s roots)
+pub begin_ok : ReachIsLeast → (s : CoreState) → IsCoreOk s → (roots : List ℕ) → can_begin s ≡ true → IsCoreOk (core_begun s roots)
 begin_ok law s ok roots can =
     let t6 = and_parts _ _ can in
     let t5 = and_parts _ _ t6.0 in

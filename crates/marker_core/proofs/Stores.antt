@@ -12,13 +12,13 @@ use Rattle.marker_core.specs.declared.states.Part.{Part}
 use Rattle.marker_core.specs.declared.states.Part.TheVariants.{Read, Mark, Key, Value}
 use Rattle.marker_core.specs.declared.states.Role.{Role}
 use Rattle.marker_core.specs.declared.states.Role.TheVariants.{StrongWord, WeakWord, KeyWord, ValueWord, PlainWord}
-use Rattle.marker_core.specs.Bodies.{kinds_of, role_at, refers, keeps, is_traced_role, word_in, role_in, has_field, field_number, with_word, names_body, holds}
+use Rattle.marker_core.specs.Bodies.{kinds_of_type, role_at, refers, keeps, is_traced_role, word_in, role_in, has_field, field_number, with_word, names_body, holds}
 use Rattle.marker_core.specs.Closed.{IsClosedOver}
 use Rattle.marker_core.specs.Hands.{role_at_hand}
 use Rattle.marker_core.specs.Seats.{seat_of}
-use Rattle.marker_core.specs.MutatorSteps.{can_store, stored}
+use Rattle.marker_core.specs.MutatorSteps.{can_store, core_stored}
 use Rattle.marker_core.specs.SeatSteps.{key_fits, may_store, store_fits, keeps_in}
-use Rattle.marker_core.specs.Views.{marks_at, traces_at, IsHand, IsNoted, IsDone}
+use Rattle.marker_core.specs.Views.{marks_at, traces_at, IsHand, IsNoted, IsHeaderRead}
 use Rattle.marker_core.specs.Tracing.{IsCovered, IsInHand, StrongAccounted, PairsAccounted, marking_word, PartFits, HandsAreBodies, MayIsClosed}
 use Rattle.marker_core.specs.Core.{IsCoreOk}
 use Rattle.gc_graph.specs.Members.{any_member, any_from, Contains-map}
@@ -63,7 +63,7 @@ module _ (s : CoreState) (ok : IsCoreOk s) (a w : ℕ) (no_pending : s.mutator.p
   role = role_in s.types o number
 
   abbrev later : Option ℕ
-  later = (stored s a w).mutator.pending
+  later = (core_stored s a w).mutator.pending
 
   -- ---- what the test tells
 
@@ -205,7 +205,7 @@ module _ (s : CoreState) (ok : IsCoreOk s) (a w : ℕ) (no_pending : s.mutator.p
   ]
 
   value_role : (b : Body) (i : ℕ) → role_in s.types b i ≡ KeyWord → role_in s.types b (i + 1) ≡ ValueWord
-  value_role b i key = value_after_key (kinds_of s.types b.ty) i key
+  value_role b i key = value_after_key (kinds_of_type s.types b.ty) i key
 
   -- ---- traced bodies
 
@@ -330,7 +330,7 @@ module _ (s : CoreState) (ok : IsCoreOk s) (a w : ℕ) (no_pending : s.mutator.p
           at_hand = was.at_hand;
           part =
               part_stored on was.body (h.next - 2) (role_at_hand s.types h) was.there
-              (ap (λ t. role_at (kinds_of s.types t) (h.next - 2)) was.ty) was.at_hand h.part was.part;
+              (ap (λ t. role_at (kinds_of_type s.types t) (h.next - 2)) was.ty) was.at_hand h.part was.part;
         };
   }
 
@@ -412,7 +412,7 @@ module _ (s : CoreState) (ok : IsCoreOk s) (a w : ℕ) (no_pending : s.mutator.p
       ap (λ on. cond (on && not (eqb w 0) && list_any (keeps_in s.types a) bodies) (Some (w - 1)) s.mutator.pending) off ∙ no_pending
 
   may_stored : s.mutator.on ≡ true
-      → MayIsClosed s.types now marks traces later s.mutator.may s.mutator.seen hand (IsDone s.mutator s.markers)
+      → MayIsClosed s.types now marks traces later s.mutator.may s.mutator.seen hand (IsHeaderRead s.mutator s.markers)
   may_stored on =
       let may = ok.may_is_closed on in
       record {
@@ -439,7 +439,7 @@ module _ (s : CoreState) (ok : IsCoreOk s) (a w : ℕ) (no_pending : s.mutator.p
         done_are_traced = may.done_are_traced;
       }
 
-  pub stored_state : IsCoreOk (stored s a w)
+  pub stored_state : IsCoreOk (core_stored s a w)
   stored_state =
       let words = stored_words s ok a w o there has in
       record {
@@ -486,7 +486,7 @@ module _ (s : CoreState) (ok : IsCoreOk s) (a w : ℕ) (no_pending : s.mutator.p
         may_is_closed = may_stored;
       }
 
-pub store_ok : (s : CoreState) → IsCoreOk s → (a w : ℕ) → can_store s a w ≡ true → IsCoreOk (stored s a w)
+pub store_ok : (s : CoreState) → IsCoreOk s → (a w : ℕ) → can_store s a w ≡ true → IsCoreOk (core_stored s a w)
 store_ok s ok a w can =
     let tests = and_parts (is_none s.mutator.pending && is_none s.mutator.hand) (list_any (store_fits (seat_of s) a w) s.mutator.bodies) can in
     let none = and_parts (is_none s.mutator.pending) (is_none s.mutator.hand) tests.0 in

@@ -9,7 +9,7 @@ use Rattle.marker_core.specs.declared.states.MutatorView.{MutatorView}
 use Rattle.marker_core.specs.declared.states.Why.TheVariants.{Trace}
 use Rattle.marker_core.specs.Views.{marks_at, traces_at, IsHand, IsNoted}
 use Rattle.marker_core.specs.Hands.{hand_read, hand_looked, wants_word, wants_key, wants, noted_pair, each_hand}
-use Rattle.marker_core.specs.MutatorSteps.{can_load, loaded}
+use Rattle.marker_core.specs.MutatorSteps.{can_load, core_loaded}
 use Rattle.marker_core.specs.Tracing.{NotedArePairs}
 use Rattle.marker_core.specs.Core.{IsCoreOk}
 use Rattle.marker_core.proofs.Tricolour.{HandTurn, HandChanges, mutator_changes, strong_turned, pairs_turned, pairs_covered, hands_turned, hands_in_turned, loaded_in_turned}
@@ -145,7 +145,7 @@ module _ (s : CoreState) (ok : IsCoreOk s) (on : s.mutator.on ≡ true) (a : ℕ
   wants_own : (test : Hand → Bool) → wants test s.mutator.hand ≡ test h
   wants_own test = ap (wants test) own
 
-  pub trace_ok_of : can_load s a Trace ≡ true → IsCoreOk (loaded s a Trace)
+  pub trace_ok_of : can_load s a Trace ≡ true → IsCoreOk (core_loaded s a Trace)
   trace_ok_of can =
       elim (cases_Bool (wants (λ g. wants_key g.part a) s.mutator.hand)) [
         | inl key ↦
@@ -164,7 +164,7 @@ module _ (s : CoreState) (ok : IsCoreOk s) (on : s.mutator.on ≡ true) (a : ℕ
             (subst (λ o. IsCoreOk (turned_state s a (each_hand (hand_read s.types word) o) s.mutator.noted)) (sym own) (trace_by_word want)))
       ]
 
-pub trace_ok : (s : CoreState) → IsCoreOk s → (a : ℕ) → can_load s a Trace ≡ true → IsCoreOk (loaded s a Trace)
+pub trace_ok : (s : CoreState) → IsCoreOk s → (a : ℕ) → can_load s a Trace ≡ true → IsCoreOk (core_loaded s a Trace)
 trace_ok s ok a can = elim (hand_or_none s.mutator.hand) [
   | inl none ↦
       absurd (false≢true (sym (ap (wants (λ g. wants_word g g.part a || wants_key g.part a)) none) ∙ can))

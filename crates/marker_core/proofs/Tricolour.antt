@@ -12,7 +12,7 @@ use Rattle.marker_core.specs.declared.states.Part.{Part}
 use Rattle.marker_core.specs.declared.states.Part.TheVariants.{Read, Mark, Key, Value}
 use Rattle.marker_core.specs.declared.states.Role.{Role}
 use Rattle.marker_core.specs.declared.states.Role.TheVariants.{StrongWord, KeyWord}
-use Rattle.marker_core.specs.Bodies.{role_at, kinds_of, is_traced_role, word_in, role_in, is_place, holds}
+use Rattle.marker_core.specs.Bodies.{role_at, kinds_of_type, is_traced_role, word_in, role_in, is_place, holds}
 use Rattle.marker_core.specs.Hands.{hand_moved, role_at_hand}
 use Rattle.marker_core.specs.Views.{IsHand, spent_view, view_at}
 use Rattle.marker_core.specs.Matching.{AreWhole, LieApart}
@@ -152,8 +152,8 @@ module _ (count : ℕ) (types : List (List Kind)) (bodies : List Body) (whole : 
             | inl here ↦ inr (sym at, here, moves.1)
             | inr off ↦ elim off [
               | inl before ↦
-                  (let role' : is_traced_role (role_at (kinds_of types h.ty) i) ≡ true =
-                  ap (λ t. is_traced_role (role_at (kinds_of types t) i)) (same_type b there at) ∙ role
+                  (let role' : is_traced_role (role_at (kinds_of_type types h.ty) i) ≡ true =
+                  ap (λ t. is_traced_role (role_at (kinds_of_type types t) i)) (same_type b there at) ∙ role
                   in
                   let found = hand_past_finds types h.place h.ty h.next i role' before in
                   inl (found.0, changes.comes found.0 (moves.0 ∙ found.1), found.2 ∙ at, found.3))
@@ -199,7 +199,7 @@ module _ (count : ℕ) (types : List (List Kind)) (bodies : List Body) (whole : 
         place = fits.place ∙ sym (ap (λ (x : Hand). x.place) past.is);
         ty = fits.ty ∙ sym (ap (λ (x : Hand). x.ty) past.is);
         past_serial = past.past_serial;
-        at_hand = ap (λ (x : Hand). is_traced_role (role_at (kinds_of types x.ty) (g.next - 2))) past.is ∙ past.at_hand;
+        at_hand = ap (λ (x : Hand). is_traced_role (role_at (kinds_of_type types x.ty) (g.next - 2))) past.is ∙ past.at_hand;
         part =
             subst (PartFits bodies marks pending may (role_at_hand types g) fits.body (g.next - 2))
             (sym (ap (λ (x : Hand). x.part) past.is)) tt;

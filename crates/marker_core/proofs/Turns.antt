@@ -10,7 +10,7 @@ use Rattle.marker_core.specs.declared.states.Part.{Part}
 use Rattle.marker_core.specs.declared.states.Part.TheVariants.{Read, Mark, Key, Value}
 use Rattle.marker_core.specs.declared.states.Role.TheVariants.{StrongWord, KeyWord}
 use Rattle.marker_core.specs.Layout.{has_mark, is_marked}
-use Rattle.marker_core.specs.Bodies.{role_at, kinds_of, refers, is_traced_role, word_in, role_in, is_place, holds}
+use Rattle.marker_core.specs.Bodies.{role_at, kinds_of_type, refers, is_traced_role, word_in, role_in, is_place, holds}
 use Rattle.marker_core.specs.Hands.{hand_moved, hand_read, hand_looked, role_at_hand, part_found, wants_word, wants_key, noted_pair}
 use Rattle.marker_core.specs.Views.{marks_at, traces_at, IsHand}
 use Rattle.marker_core.specs.Matching.{IsWhole}
@@ -26,7 +26,7 @@ use Rattle.marker_core.proofs.Headers.{mark_tells}
 use Rattle.marker_core.proofs.Tricolour.{HandTurn}
 
 pub within_fields : (count : ℕ) (types : List (List Kind)) (b : Body) (i : ℕ) → IsWhole count types b → refers (role_in types b i) ≡ true → i < length b.fields
-within_fields count types b i whole r = omega (arith, refers_within (kinds_of types b.ty) i r, whole.room, whole.fields)
+within_fields count types b i whole r = omega (arith, refers_within (kinds_of_type types b.ty) i r, whole.room, whole.fields)
 
 same_mark : (m n : ℕ) → Mark m ≡ Mark n → m ≡ n
 same_mark m n e = cc
@@ -86,7 +86,7 @@ module _ (s : CoreState) (ok : IsCoreOk s) (on : s.mutator.on ≡ true) where
         (same_place s.count s.types s.mutator.bodies ok.bodies_are_whole ok.bodies_lie_apart hand_fits.body b hand_fits.there there (hand_fits.place ∙ sym at)) own
 
     role_is : role_in s.types hand_fits.body (h.next - 2) ≡ role_at_hand s.types h
-    role_is = ap (λ t. role_at (kinds_of s.types t) (h.next - 2)) hand_fits.ty
+    role_is = ap (λ t. role_at (kinds_of_type s.types t) (h.next - 2)) hand_fits.ty
 
     body_in_may : holds s.mutator.may hand_fits.body.place ≡ true
     body_in_may = ap (holds s.mutator.may) hand_fits.place ∙ (ok.may_is_closed on).hands_in h held
@@ -161,7 +161,7 @@ module _ (s : CoreState) (ok : IsCoreOk s) (on : s.mutator.on ≡ true) where
         let fits : Fits hand_fits.body Value = subst (Fits hand_fits.body) part hand_fits.part in
         let role : role_in s.types hand_fits.body i ≡ KeyWord = role_is ∙ fits.0 in
         let refer : refers (role_in s.types hand_fits.body (i + 1)) ≡ true =
-        ap refers (value_after_key (kinds_of s.types hand_fits.body.ty) i role)
+        ap refers (value_after_key (kinds_of_type s.types hand_fits.body.ty) i role)
         in
         let is : word ≡ word_in hand_fits.body (i + 1) = word_is hand_fits.body (i + 1) a hand_fits.there refer (omega arith) in
         let names = all_name_bodies hand_fits.body (i + 1) hand_fits.there refer in
@@ -299,7 +299,7 @@ module _ (s : CoreState) (ok : IsCoreOk s) (on : s.mutator.on ≡ true) where
         let at : a ≡ h.place + h.next + 1 = eqb-true a (h.place + h.next + 1) wants in
         let fits : Fits hand_fits.body Value = subst (Fits hand_fits.body) e hand_fits.part in
         let refer : refers (role_in s.types hand_fits.body (h.next - 2 + 1)) ≡ true =
-        ap refers (value_after_key (kinds_of s.types hand_fits.body.ty) (h.next - 2) (role_is ∙ fits.0))
+        ap refers (value_after_key (kinds_of_type s.types hand_fits.body.ty) (h.next - 2) (role_is ∙ fits.0))
         in
         (h.next - 2 + 1, refer, word_is hand_fits.body (h.next - 2 + 1) a hand_fits.there refer (omega arith))
     read_of (Mark t) e wants = absurd (false≢true wants)

@@ -9,10 +9,10 @@ use Rattle.marker_core.specs.declared.states.Role.{Role}
 use Rattle.marker_core.specs.declared.states.Role.TheVariants.{StrongWord, WeakWord, KeyWord, ValueWord, PlainWord}
 
 -- how many words fields of these kinds take: two for a pair, one for any other
-abbrev pub word_count : List Kind → ℕ
-word_count [] = 0
-word_count (Pair ∷ kinds) = 2 + word_count kinds
-word_count (kind ∷ kinds) = 1 + word_count kinds
+abbrev pub field_word_count : List Kind → ℕ
+field_word_count [] = 0
+field_word_count (Pair ∷ kinds) = 2 + field_word_count kinds
+field_word_count (kind ∷ kinds) = 1 + field_word_count kinds
 
 -- what the field word with this number is; what comes after the declared fields is plain
 abbrev pub role_at : List Kind → ℕ → Role
@@ -45,8 +45,8 @@ is_traced_role KeyWord = true
 is_traced_role role = false
 
 -- the kinds of the fields of a type
-abbrev pub kinds_of : List (List Kind) → ℕ → List Kind
-kinds_of types ty = slice_index_or types ty []
+abbrev pub kinds_of_type : List (List Kind) → ℕ → List Kind
+kinds_of_type types ty = slice_index_or types ty []
 
 -- the field word with the number i of a body, and what it is
 abbrev pub word_in : Body → ℕ → ℕ
@@ -54,15 +54,15 @@ word_in b i = slice_index b.fields i
 
 -- what the field word with the number i of a body is
 abbrev pub role_in : List (List Kind) → Body → ℕ → Role
-role_in types b i = role_at (kinds_of types b.ty) i
+role_in types b i = role_at (kinds_of_type types b.ty) i
 
 -- the address past the last word of a body
 abbrev pub end_of : Body → ℕ
 end_of b = b.place + b.size
 
 -- the body has the word at a; as a field word; as the field word with this number
-abbrev pub has_word : ℕ → Body → Bool
-has_word a b = nat_le b.place a && nat_lt a (end_of b)
+abbrev pub body_has_word : ℕ → Body → Bool
+body_has_word a b = nat_le b.place a && nat_lt a (end_of b)
 
 -- the body has a field word at a
 abbrev pub has_field : ℕ → Body → Bool
@@ -86,7 +86,7 @@ is_place bodies a = list_any (λ b. b.place == a) bodies
 
 -- one of the bodies has the word at a
 abbrev pub in_body : List Body → ℕ → Bool
-in_body bodies a = list_any (has_word a) bodies
+in_body bodies a = list_any (body_has_word a) bodies
 
 -- the place that a reference other than null names
 abbrev pub place_named : ℕ → ℕ

@@ -10,7 +10,7 @@ use Rattle.gc_graph.specs.Reach.{Reach}
 use Rattle.marker_core.specs.declared.states.Body.{Body}
 use Rattle.marker_core.specs.declared.states.Role.{Role}
 use Rattle.marker_core.specs.declared.states.Role.TheVariants.{StrongWord, KeyWord}
-use Rattle.marker_core.specs.Bodies.{word_count, kinds_of, word_in, role_in, places, is_place, place_named}
+use Rattle.marker_core.specs.Bodies.{field_word_count, kinds_of_type, word_in, role_in, places, is_place, place_named}
 
 -- ---- closed: it has what the strong words of its members name, and the value of each of their pairs whose key it has
 
@@ -59,21 +59,21 @@ values_of (kind ∷ kinds) [] = []
 abbrev pub object_of : List (List Kind) → Body → Object
 object_of types b = record {
   ty = b.ty;
-  extra = length b.fields - word_count (kinds_of types b.ty);
-  kinds = kinds_of types b.ty;
-  values = values_of (kinds_of types b.ty) b.fields;
+  extra = length b.fields - field_word_count (kinds_of_type types b.ty);
+  kinds = kinds_of_type types b.ty;
+  values = values_of (kinds_of_type types b.ty) b.fields;
 }
 
 -- the node for a body, or one without fields where there is none
-abbrev pub node_of : List (List Kind) → Option Body → Object
-node_of types None = no_object
-node_of types (Some b) = object_of types b
+abbrev pub address_node : List (List Kind) → Option Body → Object
+address_node types None = no_object
+address_node types (Some b) = object_of types b
 
 -- the graph with a node for each address
-abbrev pub graph_of : ℕ → List (List Kind) → List Body → List Object
-graph_of count types bodies = map (λ a. node_of types (find (λ b. b.place == a) bodies)) (range_with_len 0 count)
+abbrev pub address_graph : ℕ → List (List Kind) → List Body → List Object
+address_graph count types bodies = map (λ a. address_node types (find (λ b. b.place == a) bodies)) (range_with_len 0 count)
 
 -- the places that the roots reach
 unfoldable pub reach_over : ℕ → List (List Kind) → List Body → List ℕ → List ℕ
 reach_over count types bodies roots =
-    filter (λ a. has (Reach (graph_of count types bodies) (filter (is_place bodies) roots)) a) (places bodies)
+    filter (λ a. has (Reach (address_graph count types bodies) (filter (is_place bodies) roots)) a) (places bodies)

@@ -2,7 +2,7 @@
 use Rattle.std.specs.Prelude.{◌≡◌, true, slice_index}
 use Rattle.marker_core.specs.declared.states.CoreState.{CoreState}
 use Rattle.marker_core.specs.Layout.{stop_at}
-use Rattle.marker_core.specs.Views.{marks_at, traces_at, IsHand, IsNoted, IsDone}
+use Rattle.marker_core.specs.Views.{marks_at, traces_at, IsHand, IsNoted, IsHeaderRead}
 use Rattle.marker_core.specs.Matching.{AreTypes, HasRoom, AreWhole, LieApart, SerialsDiffer, HeadersMatch, SerialsMatch, StartsMatch, FieldsMatch, FilledMatch, ReferencesNameBodies, QuietWhileOff}
 use Rattle.marker_core.specs.Tracing.{StrongAccounted, PairsAccounted, NotedArePairs, HandsAreBodies, MayIsClosed, TracedAreMarked, MarksCountedOnce}
 
@@ -41,4 +41,4 @@ pub record IsCoreOk (s : CoreState) : Type 0 where
   pub may_is_closed :
       s.mutator.on ≡ true
       → MayIsClosed s.types s.mutator.bodies (marks_at s.mutator s.markers) (traces_at s.mutator s.markers) s.mutator.pending
-      s.mutator.may s.mutator.seen (IsHand s.mutator s.markers) (IsDone s.mutator s.markers)
+      s.mutator.may s.mutator.seen (IsHand s.mutator s.markers) (IsHeaderRead s.mutator s.markers)

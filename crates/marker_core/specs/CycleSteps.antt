@@ -17,14 +17,14 @@ abbrev pub can_begin : CoreState → Bool
 can_begin s = seat_can_begin (seat_of s)
 
 -- the state in which marking has begun from these roots
-abbrev pub begun : CoreState → List ℕ → CoreState
-begun s roots = record s { words = slice_set s.words (stop_at s.count) 0; mutator = seat_begun (seat_of s) roots }
+abbrev pub core_begun : CoreState → List ℕ → CoreState
+core_begun s roots = record s { words = slice_set s.words (stop_at s.count) 0; mutator = seat_begun (seat_of s) roots }
 
 -- ---- the markers are told to stop, and marking ends where none is out
 
 -- the stop word is set
-abbrev pub stopped : CoreState → CoreState
-stopped s = record s { words = slice_set s.words (stop_at s.count) 1 }
+abbrev pub core_stopped : CoreState → CoreState
+core_stopped s = record s { words = slice_set s.words (stop_at s.count) 1 }
 
 -- the stop ends marking: it goes on, and no view is lent
 abbrev pub ends : CoreState → Bool
@@ -39,14 +39,14 @@ can_end s =
     && closes_over s.types (is_marked s.words) s.mutator.bodies
 
 -- the places of the bodies without a mark
-abbrev pub unmarked_places : CoreState → List ℕ
-unmarked_places s = filter (λ a. not (is_marked s.words a)) (places s.mutator.bodies)
+abbrev pub core_unmarked_places : CoreState → List ℕ
+core_unmarked_places s = filter (λ a. not (is_marked s.words a)) (places s.mutator.bodies)
 
 -- the state in which marking has ended, and what has no mark is dead
-abbrev pub ended : CoreState → CoreState
-ended s = record s {
+abbrev pub core_ended : CoreState → CoreState
+core_ended s = record s {
   words = slice_set s.words (stop_at s.count) 1;
-  mutator = ended_with (seat_of s) (unmarked_places s);
+  mutator = ended_with (seat_of s) (core_unmarked_places s);
 }
 
 -- ---- a view is lent, and given back
@@ -67,8 +67,8 @@ abbrev pub can_join : CoreState → ℕ → Bool
 can_join s marker = let v = view_at s.markers marker in not v.spent && is_none v.hand
 
 -- what the view knows has become the mutator's, and the view is spent
-abbrev pub joined : CoreState → ℕ → CoreState
-joined s marker =
+abbrev pub core_joined : CoreState → ℕ → CoreState
+core_joined s marker =
     let v = view_at s.markers marker in
     record s {
       mutator = record s.mutator {

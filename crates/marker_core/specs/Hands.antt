@@ -11,7 +11,7 @@ use Rattle.marker_core.specs.declared.states.Part.TheVariants.{Read, Mark, Key, 
 use Rattle.marker_core.specs.declared.states.Role.{Role}
 use Rattle.marker_core.specs.declared.states.Role.TheVariants.{KeyWord}
 use Rattle.marker_core.specs.Layout.{has_mark, type_in}
-use Rattle.marker_core.specs.Bodies.{role_at, kinds_of, place_named}
+use Rattle.marker_core.specs.Bodies.{role_at, kinds_of_type, place_named}
 
 -- the offsets of the strong words and of the pairs, from the one at which the fields begin
 abbrev pub traced_offsets : ℕ → List Kind → List ℕ
@@ -24,7 +24,7 @@ traced_offsets at (kind ∷ kinds) = traced_offsets (at + 1) kinds
 abbrev pub hand_past : List (List Kind) → ℕ → ℕ → ℕ → Option Hand
 hand_past types place ty offset =
     option_map (λ next. record { place = place; ty = ty; next = next; part = Read })
-    (find (λ next. nat_lt offset next) (traced_offsets first_field (kinds_of types ty)))
+    (find (λ next. nat_lt offset next) (traced_offsets first_field (kinds_of_type types ty)))
 
 -- the hand of an object that was just claimed, whose type its header tells
 abbrev pub hand_claimed : List (List Kind) → ℕ → ℕ → Option Hand
@@ -36,7 +36,7 @@ hand_moved types h = hand_past types h.place h.ty h.next
 
 -- what the word at hand is
 abbrev pub role_at_hand : List (List Kind) → Hand → Role
-role_at_hand types h = role_at (kinds_of types h.ty) (h.next - first_field)
+role_at_hand types h = role_at (kinds_of_type types h.ty) (h.next - first_field)
 
 -- what was read is a key, or else to be marked
 abbrev pub part_found : Role → Part → ℕ → Part

@@ -12,7 +12,7 @@ use Rattle.marker_core.specs.declared.states.Why.TheVariants.{Weak}
 use Rattle.marker_core.specs.declared.steps.CoreStep.TheVariants.{Load, Publish, Stop}
 use Rattle.marker_core.specs.declared.states.Hand.{Hand}
 use Rattle.marker_core.specs.Bodies.{refers, word_in, role_in, is_place, names_body, holds, place_named}
-use Rattle.marker_core.specs.Closed.{IsClosedOver, graph_of, reach_over}
+use Rattle.marker_core.specs.Closed.{IsClosedOver, address_graph, reach_over}
 use Rattle.marker_core.specs.Looking.{is_pulled}
 use Rattle.marker_core.specs.Matching.{AreTypes, AreWhole, LieApart}
 use Rattle.marker_core.specs.Views.{marks_at, traces_at, IsHand, IsNoted}
@@ -46,7 +46,7 @@ ReachOverIsLeast =
 abbrev pub ClosesByWords : Type 0
 ClosesByWords =
     (count : ℕ) (types : List (List Kind)) (bodies : List Body) (set : List Bool) → AreWhole count types bodies → LieApart bodies
-    → closing (graph_of count types bodies) set ≡ map (is_pulled types bodies set) (range_with_len 0 count)
+    → closing (address_graph count types bodies) set ≡ map (is_pulled types bodies set) (range_with_len 0 count)
 
 -- ---- the state with which all begins
 
@@ -69,7 +69,7 @@ RunsKeep = (s t : CoreState) (steps : List CoreStep) → IsCoreOk s → core_run
 
 -- marking goes on, with no hand, nothing that waits for its mark, no grey body, and each noted pair has a key that is null or
 -- unmarked, or a value that is null or marked
-pub record IsSettled (s : CoreState) : Type 0 where
+pub record IsMarkingSettled (s : CoreState) : Type 0 where
   pub on : s.mutator.on ≡ true
   pub hands : (h : Hand) → IsHand s.mutator s.markers h → ⊥
   pub pending : s.mutator.pending ≡ None
@@ -94,7 +94,7 @@ pub record HasEnded (s : CoreState) : Type 0 where
 
 -- where marking has settled it has come to its end
 abbrev pub SettledHasEnded : Type 0
-SettledHasEnded = (s : CoreState) → IsCoreOk s → IsSettled s → HasEnded s
+SettledHasEnded = (s : CoreState) → IsCoreOk s → IsMarkingSettled s → HasEnded s
 
 -- ---- what steps of a marking cycle are for
 
@@ -105,7 +105,7 @@ NewAndReadMayBeKept =
     → (core_step s (Publish a) ≡ Some t) ⊎ (core_step s (Load a Weak) ≡ Some t) → holds t.mutator.may a ≡ true
 
 -- where marking ended the marked set is closed, every marked body is traced, and what isn't marked is dead
-pub record IsMarkedOut (s : CoreState) : Type 0 where
+pub record HasEndedMarking (s : CoreState) : Type 0 where
   pub closed : IsClosedOver s.types s.mutator.bodies (is_marked_in s)
   pub traced : (a : ℕ) → 0 < marks_at s.mutator s.markers a → 0 < traces_at s.mutator s.markers a
   pub dead : (a : ℕ) → is_place s.mutator.bodies a ≡ true → marks_at s.mutator s.markers a ≡ 0 → holds s.mutator.dead a ≡ true
@@ -114,4 +114,4 @@ pub record IsMarkedOut (s : CoreState) : Type 0 where
 abbrev pub EndsMarkedOut : Type 0
 EndsMarkedOut =
     (s t : CoreState) (roots : List ℕ) → IsCoreOk s → s.mutator.on ≡ true → core_step s (Stop true roots) ≡ Some t → t.mutator.on ≡ false
-    → IsMarkedOut t
+    → HasEndedMarking t

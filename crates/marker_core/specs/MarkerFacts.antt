@@ -9,11 +9,11 @@ use Rattle.marker_core.specs.declared.states.MutatorView.{MutatorView}
 use Rattle.marker_core.specs.declared.states.Part.TheVariants.{Mark, Key, Value}
 use Rattle.marker_core.specs.declared.states.Role.TheVariants.{KeyWord}
 use Rattle.marker_core.specs.Layout.{bitmap_at, bit_is_set, stop_at, has_mark, has_traced}
-use Rattle.marker_core.specs.Bodies.{word_count, is_traced_role, kinds_of, holds, place_named}
+use Rattle.marker_core.specs.Bodies.{field_word_count, is_traced_role, kinds_of_type, holds, place_named}
 use Rattle.marker_core.specs.Hands.{role_at_hand}
 use Rattle.marker_core.specs.Views.{view_at}
 use Rattle.marker_core.specs.Seats.{SeatSide, core_of}
-use Rattle.marker_core.specs.MarkerSeats.{MarkerSide, beside, marker_wants_word}
+use Rattle.marker_core.specs.MarkerSeats.{MarkerSide, seat_beside, marker_wants_word}
 use Rattle.marker_core.specs.Matching.{AreTypes}
 use Rattle.marker_core.specs.Core.{IsCoreOk}
 
@@ -26,7 +26,7 @@ pub record IsObjectHeader (v : MarkerSide) (a w : ℕ) : Type 0 where
   pub size : ℕ
   pub word : w ≡ header_word true (has_mark w) (has_traced w) ty size
   pub known_type : ty < length v.types
-  pub room : 2 + word_count (kinds_of v.types ty) ≤ size
+  pub room : 2 + field_word_count (kinds_of_type v.types ty) ≤ size
   pub small : size < 2 ^ 26
   pub inside : a + size ≤ v.count
   pub traced_is_marked : has_traced w ≡ true → has_mark w ≡ true
@@ -48,7 +48,7 @@ pub record MarkerMayFind (v : MarkerSide) (a w : ℕ) : Type 0 where
 abbrev pub MarkerWordsMayBeFound : Type 0
 MarkerWordsMayBeFound =
     (v : MarkerSide) (m : MutatorView) (words : List ℕ) (markers : List MarkerView) (number a : ℕ)
-    → IsCoreOk (core_of (beside v m) words markers) → view_at markers number ≡ v.marker → v.marker.spent ≡ false
+    → IsCoreOk (core_of (seat_beside v m) words markers) → view_at markers number ≡ v.marker → v.marker.spent ≡ false
     → MarkerMayFind v a (slice_index words a)
 
 -- ---- what a view tells
@@ -59,9 +59,9 @@ pub record IsMarkerHand (v : MarkerSide) (h : Hand) : Type 0 where
   pub known_type : h.ty < length v.types
   pub past_serial : first_field ≤ h.next
   pub at_hand : is_traced_role (role_at_hand v.types h) ≡ true
-  pub within : h.next < 2 + word_count (kinds_of v.types h.ty)
-  pub pair_within : role_at_hand v.types h ≡ KeyWord → h.next + 1 < 2 + word_count (kinds_of v.types h.ty)
-  pub inside : h.place + (2 + word_count (kinds_of v.types h.ty)) ≤ v.count
+  pub within : h.next < 2 + field_word_count (kinds_of_type v.types h.ty)
+  pub pair_within : role_at_hand v.types h ≡ KeyWord → h.next + 1 < 2 + field_word_count (kinds_of_type v.types h.ty)
+  pub inside : h.place + (2 + field_word_count (kinds_of_type v.types h.ty)) ≤ v.count
   pub target : (t : ℕ) → h.part ≡ Mark t → t + 2 ≤ v.count
   pub key : (k : ℕ) → h.part ≡ Key k → (k + 2 ≤ v.count) × (role_at_hand v.types h ≡ KeyWord)
   pub value : h.part ≡ Value → role_at_hand v.types h ≡ KeyWord
@@ -81,7 +81,7 @@ pub record IsMarkerOk (v : MarkerSide) : Type 0 where
 abbrev pub MarkersAreOk : Type 0
 MarkersAreOk =
     (v : MarkerSide) (m : MutatorView) (words : List ℕ) (markers : List MarkerView) (number : ℕ)
-    → IsCoreOk (core_of (beside v m) words markers) → view_at markers number ≡ v.marker → v.marker.spent ≡ false → IsMarkerOk v
+    → IsCoreOk (core_of (seat_beside v m) words markers) → view_at markers number ≡ v.marker → v.marker.spent ≡ false → IsMarkerOk v
 
 -- ---- what a lent view tells of the mutator's
 

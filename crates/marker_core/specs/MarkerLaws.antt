@@ -13,7 +13,7 @@ use Rattle.marker_core.specs.Views.{fresh_view, spent_view, view_at}
 use Rattle.marker_core.specs.Seats.{SeatSide, core_of, with_view}
 use Rattle.marker_core.specs.SeatSteps.{is_grey}
 use Rattle.marker_core.specs.SeatLaws.{exchanged}
-use Rattle.marker_core.specs.MarkerSeats.{MarkerSide, beside, seat_lent, seat_joined, marker_found_start, marker_polled, marker_looked, marker_claimed, marker_wants_word, marker_read, marker_wants_mark, marker_marked}
+use Rattle.marker_core.specs.MarkerSeats.{MarkerSide, seat_beside, seat_lent, seat_joined, marker_found_start, marker_polled, marker_looked, marker_claimed, marker_wants_word, marker_read, marker_wants_mark, marker_marked}
 use Rattle.marker_core.specs.Step.{core_step}
 use Rattle.marker_core.specs.Core.{IsCoreOk}
 
@@ -21,11 +21,11 @@ use Rattle.marker_core.specs.Core.{IsCoreOk}
 -- the word found at the address, and leaves this view for it; the mutator's view and the other views stay
 abbrev pub IsMarkerStep : MarkerSide → (ℕ → CoreStep) → ℕ → (ℕ → ℕ) → (ℕ → MarkerView) → Type 0
 IsMarkerStep v step at makes next =
-    (m : MutatorView) (words : List ℕ) (markers : List MarkerView) (number : ℕ) → IsCoreOk (core_of (beside v m) words markers)
+    (m : MutatorView) (words : List ℕ) (markers : List MarkerView) (number : ℕ) → IsCoreOk (core_of (seat_beside v m) words markers)
     → view_at markers number ≡ v.marker → v.marker.spent ≡ false
-    → core_step (core_of (beside v m) words markers) (step number)
+    → core_step (core_of (seat_beside v m) words markers) (step number)
     ≡ Some
-    (core_of (beside v m) (slice_set words at (makes (slice_index words at))) (slice_set markers number (next (slice_index words at))))
+    (core_of (seat_beside v m) (slice_set words at (makes (slice_index words at))) (slice_set markers number (next (slice_index words at))))
 
 -- a look at a start bit leaves the word
 abbrev pub BitsAreSteps : Type 0

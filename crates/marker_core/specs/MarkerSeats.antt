@@ -18,8 +18,8 @@ pub record MarkerSide : Type 0 where
   pub open marker use *
 
 -- the mutator's side of a state in which a marker has this side, for a view of the mutator
-abbrev pub beside : MarkerSide → MutatorView → SeatSide
-beside v m = record { count = v.count; types = v.types; mutator = m }
+abbrev pub seat_beside : MarkerSide → MutatorView → SeatSide
+seat_beside v m = record { count = v.count; types = v.types; mutator = m }
 
 -- ---- a view is lent, and given back
 

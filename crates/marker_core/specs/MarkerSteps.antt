@@ -11,8 +11,8 @@ use Rattle.marker_core.specs.Hands.{hand_claimed, hand_read, hand_looked, hand_m
 use Rattle.marker_core.specs.SeatSteps.{is_grey}
 
 -- the marker's view is another
-abbrev pub with_view : CoreState → ℕ → MarkerView → CoreState
-with_view s marker v = record s { markers = slice_set s.markers marker v }
+abbrev pub with_marker_view : CoreState → ℕ → MarkerView → CoreState
+with_marker_view s marker v = record s { markers = slice_set s.markers marker v }
 
 -- ---- a start bit is read
 
@@ -25,7 +25,7 @@ abbrev pub bit_read : CoreState → ℕ → ℕ → CoreState
 bit_read s marker a =
     let v = view_at s.markers marker in
     let set = is_start s.count s.words a in
-    with_view s marker (record v {
+    with_marker_view s marker (record v {
       known = if set then v.known ++ a ∷ [] else v.known;
       missed = if set then v.missed else v.missed ++ a ∷ [];
     })
@@ -42,7 +42,7 @@ looked s marker a =
     let v = view_at s.markers marker in
     let header = slice_index s.words a in
     let key = wants (λ h. wants_key h.part a) v.hand in
-    with_view s marker (record v {
+    with_marker_view s marker (record v {
       hand = if key then each_hand (hand_looked s.types header) v.hand else v.hand;
       noted = if key then v.noted ++ noted_pair header v.hand else v.noted;
       done = if has_traced header then v.done ++ a ∷ [] else v.done;
@@ -64,8 +64,8 @@ can_claim_as s marker a header =
     holds v.known a && is_none v.hand && is_last v.last a header && is_grey header
 
 -- where the header is still the one that was read, the object is traced and in the hand
-abbrev pub claimed_as : CoreState → ℕ → ℕ → ℕ → CoreState
-claimed_as s marker a header =
+abbrev pub core_claimed_as : CoreState → ℕ → ℕ → ℕ → CoreState
+core_claimed_as s marker a header =
     let v = view_at s.markers marker in
     let found = slice_index s.words a in
     if found == header
@@ -73,7 +73,7 @@ claimed_as s marker a header =
       words = slice_set s.words a (word_with_traced true found);
       markers = slice_set s.markers marker (record v { traced = v.traced ++ a ∷ []; hand = hand_claimed s.types a found });
     }
-    else with_view s marker (record v {
+    else with_marker_view s marker (record v {
       done = if has_traced found then v.done ++ a ∷ [] else v.done;
       missed = if has_traced found then v.missed else v.missed ++ a ∷ [];
     })
@@ -89,11 +89,11 @@ abbrev pub known_by : ℕ → List ℕ
 known_by w = if w == 0 then [] else (place_named w) ∷ []
 
 -- the hand has read the word at a
-abbrev pub field_read : CoreState → ℕ → ℕ → CoreState
-field_read s marker a =
+abbrev pub core_field_read : CoreState → ℕ → ℕ → CoreState
+core_field_read s marker a =
     let v = view_at s.markers marker in
     let w = slice_index s.words a in
-    with_view s marker (record v { hand = each_hand (hand_read s.types w) v.hand; known = v.known ++ known_by w })
+    with_marker_view s marker (record v { hand = each_hand (hand_read s.types w) v.hand; known = v.known ++ known_by w })
 
 -- ---- the target in hand is marked
 
@@ -102,8 +102,8 @@ abbrev pub can_mark_as : CoreState → ℕ → ℕ → Bool
 can_mark_as s marker a = wants (λ h. wants_mark h.part a) (view_at s.markers marker).hand
 
 -- the object at a is marked, and the hand moves on
-abbrev pub marked_as : CoreState → ℕ → ℕ → CoreState
-marked_as s marker a =
+abbrev pub core_marked_as : CoreState → ℕ → ℕ → CoreState
+core_marked_as s marker a =
     let v = view_at s.markers marker in
     let header = slice_index s.words a in
     record s {
@@ -124,4 +124,4 @@ can_poll s marker = not (view_at s.markers marker).spent
 abbrev pub polled : CoreState → ℕ → CoreState
 polled s marker =
     let v = view_at s.markers marker in
-    with_view s marker (record v { halted = v.halted || (slice_index s.words (stop_at s.count) == 1) })
+    with_marker_view s marker (record v { halted = v.halted || (slice_index s.words (stop_at s.count) == 1) })

@@ -8,7 +8,7 @@ use Rattle.marker_core.specs.declared.states.Body.{Body}
 use Rattle.marker_core.specs.declared.states.Hand.{Hand}
 use Rattle.marker_core.specs.declared.states.MarkerView.{MarkerView}
 use Rattle.marker_core.specs.Layout.{stop_at, is_start}
-use Rattle.marker_core.specs.Bodies.{word_count, refers, kinds_of, word_in, role_in, end_of, is_place, in_body, names_body, holds}
+use Rattle.marker_core.specs.Bodies.{field_word_count, refers, kinds_of_type, word_in, role_in, end_of, is_place, in_body, names_body, holds}
 
 -- at most 16,383 types, each with at most 64 fields
 pub record AreTypes (types : List (List Kind)) : Type 0 where
@@ -24,7 +24,7 @@ pub record HasRoom (count : ℕ) (words : List ℕ) : Type 0 where
 -- a body is of one of the types, lies in the heap, and has room for a header, a serial number and the type's fields
 pub record IsWhole (count : ℕ) (types : List (List Kind)) (b : Body) : Type 0 where
   pub ty : b.ty < length types
-  pub room : 2 + word_count (kinds_of types b.ty) ≤ b.size
+  pub room : 2 + field_word_count (kinds_of_type types b.ty) ≤ b.size
   pub size : b.size < 2 ^ 26
   pub inside : end_of b ≤ count
   pub fields : length b.fields + first_field ≡ b.size

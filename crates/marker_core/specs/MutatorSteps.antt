@@ -19,8 +19,8 @@ abbrev pub can_load : CoreState → ℕ → Why → Bool
 can_load s a why = seat_can_load (seat_of s) a why
 
 -- the word at a was loaded
-abbrev pub loaded : CoreState → ℕ → Why → CoreState
-loaded s a why = record s { mutator = seat_loaded (seat_of s) a why (slice_index s.words a) }
+abbrev pub core_loaded : CoreState → ℕ → Why → CoreState
+core_loaded s a why = record s { mutator = seat_loaded (seat_of s) a why (slice_index s.words a) }
 
 -- ---- fill
 
@@ -29,8 +29,8 @@ abbrev pub can_fill : CoreState → ℕ → Bool
 can_fill s a = seat_can_fill (seat_of s) a
 
 -- the word at a was filled with w
-abbrev pub filled : CoreState → ℕ → ℕ → CoreState
-filled s a w = record s { words = slice_set s.words a w; mutator = seat_filled (seat_of s) a w }
+abbrev pub core_filled : CoreState → ℕ → ℕ → CoreState
+core_filled s a w = record s { words = slice_set s.words a w; mutator = seat_filled (seat_of s) a w }
 
 -- ---- store
 
@@ -39,8 +39,8 @@ abbrev pub can_store : CoreState → ℕ → ℕ → Bool
 can_store s a w = seat_can_store (seat_of s) a w
 
 -- w was stored at a
-abbrev pub stored : CoreState → ℕ → ℕ → CoreState
-stored s a w = record s { words = slice_set s.words a w; mutator = seat_stored (seat_of s) a w }
+abbrev pub core_stored : CoreState → ℕ → ℕ → CoreState
+core_stored s a w = record s { words = slice_set s.words a w; mutator = seat_stored (seat_of s) a w }
 
 -- ---- publish
 
@@ -72,8 +72,8 @@ can_publish s a =
     is_whole_object s.types (slice_index s.words a) b && is_in_free_words s b && is_new_serial s.mutator.bodies b.serial
 
 -- the object at a was published
-abbrev pub published : CoreState → ℕ → CoreState
-published s a =
+abbrev pub core_published : CoreState → ℕ → CoreState
+core_published s a =
     record s { words = with_start s.count s.words a; mutator = seat_published (seat_of s) (body_at s.words a) }
 
 -- ---- retract
@@ -83,8 +83,8 @@ abbrev pub can_retract : CoreState → ℕ → Bool
 can_retract s a = seat_can_retract (seat_of s) a
 
 -- the dead object at a was retracted
-abbrev pub retracted : CoreState → ℕ → CoreState
-retracted s a = record s { words = without_start s.count s.words a; mutator = seat_retracted (seat_of s) a }
+abbrev pub core_retracted : CoreState → ℕ → CoreState
+core_retracted s a = record s { words = without_start s.count s.words a; mutator = seat_retracted (seat_of s) a }
 
 -- ---- mark
 

@@ -19,7 +19,7 @@ use Rattle.marker_core.specs.Core.{IsCoreOk}
 -- ---- what a word tells
 
 -- a bit that the seat set is set; where no view is lent, no other one is
-pub record IsTold (lent : ℕ) (own bit : Bool) : Type 0 where
+pub record IsBitTold (lent : ℕ) (own bit : Bool) : Type 0 where
   pub set : own ≡ true → bit ≡ true
   pub alone : lent ≡ 0 → bit ≡ own
 
@@ -27,8 +27,8 @@ pub record IsTold (lent : ℕ) (own bit : Bool) : Type 0 where
 -- is lent, and what has the mark may be kept
 pub record IsHeaderAt (v : SeatSide) (a w : ℕ) : Type 0 where
   pub word : (b : Body) → Contains v.bodies b → b.place ≡ a → w ≡ header_word true (has_mark w) (has_traced w) b.ty b.size
-  pub mark : IsTold v.lent (holds v.marked a) (has_mark w)
-  pub traced : IsTold v.lent (holds v.traced a) (has_traced w)
+  pub mark : IsBitTold v.lent (holds v.marked a) (has_mark w)
+  pub traced : IsBitTold v.lent (holds v.traced a) (has_traced w)
   pub traced_is_marked : has_traced w ≡ true → has_mark w ≡ true
   pub may : v.on ≡ true → has_mark w ≡ true → holds v.may a ≡ true
 

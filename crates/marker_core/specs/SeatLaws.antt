@@ -42,7 +42,7 @@ StoresAreSteps =
 
 -- the words of the body were filled: a live header without mark and traced bit, a serial number that no body has, and fields in
 -- which each reference is null; it is of one of the types, and no body has one of its words
-pub record IsReady (v : SeatSide) (b : Body) : Type 0 where
+pub record IsReadyToPublish (v : SeatSide) (b : Body) : Type 0 where
   pub header : Contains v.filled (b.place, header_word true false false b.ty b.size)
   pub serial : Contains v.filled (b.place + serial_offset, b.serial)
   pub fields : (i : ℕ) → i < length b.fields → Contains v.filled (b.place + first_field + i, word_in b i)
@@ -55,7 +55,7 @@ pub record IsReady (v : SeatSide) (b : Body) : Type 0 where
 -- a publication sets the object's start bit
 abbrev pub PublishesAreSteps : Type 0
 PublishesAreSteps =
-    (v : SeatSide) (b : Body) → IsReady v b
+    (v : SeatSide) (b : Body) → IsReadyToPublish v b
     → IsSeatStep v (Publish b.place) (bitmap_at v.count b.place) (λ found. bit_or found (2 ^ (b.place % 64))) (λ found. seat_published v b)
 
 -- a retraction clears it

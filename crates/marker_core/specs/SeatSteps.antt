@@ -12,7 +12,7 @@ use Rattle.marker_core.specs.declared.states.Role.TheVariants.{KeyWord}
 use Rattle.marker_core.specs.declared.states.Why.{Why}
 use Rattle.marker_core.specs.declared.states.Why.TheVariants.{Read, Weak, Trace}
 use Rattle.marker_core.specs.Layout.{stop_at, has_mark, has_traced}
-use Rattle.marker_core.specs.Bodies.{word_count, refers, keeps, kinds_of, word_in, role_in, end_of, has_word, has_field, field_number, with_word, places, is_place, in_body, names_body, refers_to, holds, without, place_named}
+use Rattle.marker_core.specs.Bodies.{field_word_count, refers, keeps, kinds_of_type, word_in, role_in, end_of, body_has_word, has_field, field_number, with_word, places, is_place, in_body, names_body, refers_to, holds, without, place_named}
 use Rattle.marker_core.specs.Closed.{closes_over, reach_over}
 use Rattle.marker_core.specs.Hands.{hand_claimed, hand_read, hand_looked, hand_after_mark, wants_word, wants_key, wants, noted_pair, each_hand}
 use Rattle.marker_core.specs.Seats.{SeatSide}
@@ -108,7 +108,7 @@ abbrev pub is_whole_object : List (List Kind) → ℕ → Body → Bool
 is_whole_object types header b =
     (header == header_word true false false b.ty b.size)
     && nat_lt b.ty (length types)
-    && nat_le (2 + word_count (kinds_of types b.ty)) b.size
+    && nat_le (2 + field_word_count (kinds_of_type types b.ty)) b.size
     && nat_lt b.size (2 ^ 26)
     && list_all (λ i. not (refers (role_in types b i)) || (word_in b i == 0)) (range_with_len 0 (length b.fields))
 
@@ -120,7 +120,7 @@ is_new_serial bodies serial = nat_lt serial (2 ^ 32) && not (list_any (λ b. b.s
 abbrev pub seat_published : SeatSide → Body → MutatorView
 seat_published v b = record v.mutator {
   bodies = v.bodies ++ b ∷ [];
-  filled = filter (λ f. not (has_word f.0 b)) v.filled;
+  filled = filter (λ f. not (body_has_word f.0 b)) v.filled;
   may = if v.on then v.may ++ b.place ∷ [] else v.may;
 }
 

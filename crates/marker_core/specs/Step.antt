@@ -3,9 +3,9 @@ use Rattle.std.specs.Prelude.{◌≡◌, ℕ, ◌+◌, ◌<◌, Bool, true, fals
 use Rattle.marker_core.specs.declared.states.CoreState.{CoreState}
 use Rattle.marker_core.specs.declared.steps.CoreStep.{CoreStep}
 use Rattle.marker_core.specs.declared.steps.CoreStep.TheVariants.{Load, Fill, Store, Publish, Retract, Mark, Header, Stop, Split, Join, Bit, Look, Claim, Field, MarkerMark, Poll}
-use Rattle.marker_core.specs.MutatorSteps.{can_load, loaded, can_fill, filled, can_store, stored, can_publish, published, can_retract, retracted, can_mark, marked, can_claim, claimed, can_unmark, unmarked}
-use Rattle.marker_core.specs.CycleSteps.{can_begin, begun, stopped, ends, can_end, ended, can_split, split, can_join, joined}
-use Rattle.marker_core.specs.MarkerSteps.{can_read_bit, bit_read, can_look, looked, can_claim_as, claimed_as, can_read_field, field_read, can_mark_as, marked_as, can_poll, polled}
+use Rattle.marker_core.specs.MutatorSteps.{can_load, core_loaded, can_fill, core_filled, can_store, core_stored, can_publish, core_published, can_retract, core_retracted, can_mark, marked, can_claim, claimed, can_unmark, unmarked}
+use Rattle.marker_core.specs.CycleSteps.{can_begin, core_begun, core_stopped, ends, can_end, core_ended, can_split, split, can_join, core_joined}
+use Rattle.marker_core.specs.MarkerSteps.{can_read_bit, bit_read, can_look, looked, can_claim_as, core_claimed_as, can_read_field, core_field_read, can_mark_as, core_marked_as, can_poll, polled}
 
 -- the step is allowed
 abbrev pub is_allowed : CoreState → CoreStep → Bool
@@ -30,23 +30,23 @@ is_allowed s (Poll marker) = can_poll s marker
 
 -- the state after it
 abbrev pub changed : CoreState → CoreStep → CoreState
-changed s (Load a why) = loaded s a why
-changed s (Fill a w) = filled s a w
-changed s (Store a w) = stored s a w
-changed s (Publish a) = published s a
-changed s (Retract a) = retracted s a
+changed s (Load a why) = core_loaded s a why
+changed s (Fill a w) = core_filled s a w
+changed s (Store a w) = core_stored s a w
+changed s (Publish a) = core_published s a
+changed s (Retract a) = core_retracted s a
 changed s (Mark a) = marked s a
 changed s (Header a true) = claimed s a
 changed s (Header a false) = unmarked s a
-changed s (Stop false roots) = begun s roots
-changed s (Stop true roots) = if ends s then ended s else stopped s
+changed s (Stop false roots) = core_begun s roots
+changed s (Stop true roots) = if ends s then core_ended s else core_stopped s
 changed s Split = split s
-changed s (Join marker) = joined s marker
+changed s (Join marker) = core_joined s marker
 changed s (Bit marker a) = bit_read s marker a
 changed s (Look marker a) = looked s marker a
-changed s (Claim marker a header) = claimed_as s marker a header
-changed s (Field marker a) = field_read s marker a
-changed s (MarkerMark marker a) = marked_as s marker a
+changed s (Claim marker a header) = core_claimed_as s marker a header
+changed s (Field marker a) = core_field_read s marker a
+changed s (MarkerMark marker a) = core_marked_as s marker a
 changed s (Poll marker) = polled s marker
 
 -- the state after the step, where it is allowed

@@ -27,8 +27,8 @@ abbrev pub IsNoted : MutatorView → List MarkerView → ℕ → ℕ → Type 0
 IsNoted m views p offset = Contains m.noted (p, offset) ⊎ ((v : MarkerView) × Contains views v × Contains v.noted (p, offset))
 
 -- a view has read the traced bit of the header at a
-abbrev pub IsDone : MutatorView → List MarkerView → ℕ → Type 0
-IsDone m views a = (holds m.done a ≡ true) ⊎ ((v : MarkerView) × Contains views v × (holds v.done a ≡ true))
+abbrev pub IsHeaderRead : MutatorView → List MarkerView → ℕ → Type 0
+IsHeaderRead m views a = (holds m.done a ≡ true) ⊎ ((v : MarkerView) × Contains views v × (holds v.done a ≡ true))
 
 -- the view of a new marker, and one that was given back
 abbrev pub fresh_view : MarkerView

@@ -8,7 +8,7 @@ use Rattle.type_table.specs.FieldLaw.{FieldsStandApart, BeginsAt}
 use Rattle.marker_core.specs.declared.states.Body.{Body}
 use Rattle.marker_core.specs.declared.states.Role.{Role}
 use Rattle.marker_core.specs.declared.states.Role.TheVariants.{StrongWord, WeakWord, KeyWord, ValueWord, PlainWord}
-use Rattle.marker_core.specs.Bodies.{role_at, role_in, keeps, kinds_of as kinds_of_body}
+use Rattle.marker_core.specs.Bodies.{role_at, role_in, keeps, kinds_of_type}
 use Rattle.marker_core.specs.RoleOrder.{value_after_key}
 use Rattle.page_words.specs.Bodies.{IsKeyWord, kind_in}
 use Rattle.page_words.specs.Roles.{kind_lists, kinds_fit, kind_of_role, kind_is_role, role_of_field, first_role, words_before}
@@ -42,4 +42,4 @@ key_role law v b i key =
 
 pub value_role : FieldsStandApart → (v : SeatView) (b : Body) (i : ℕ) → IsKeyWord v.types b i → role_in (kind_lists v.types) b (i + 1) ≡ ValueWord
 value_role law v b i key =
-    value_after_key (kinds_of_body (kind_lists v.types) b.ty) i (key_role law v b i key)
+    value_after_key (kinds_of_type (kind_lists v.types) b.ty) i (key_role law v b i key)

@@ -11,7 +11,7 @@ use Rattle.gc_graph.specs.Valid.{IsTyped, HaveKinds, IsReferenceBelow, ArePaired
 use Rattle.type_table.specs.Types.{kinds_of as kinds_in}
 use Rattle.marker_core.specs.declared.states.Body.{Body}
 use Rattle.marker_core.specs.declared.states.Role.TheVariants.{KeyWord}
-use Rattle.marker_core.specs.Bodies.{role_at, kinds_of}
+use Rattle.marker_core.specs.Bodies.{role_at, kinds_of_type}
 use Rattle.page_words.specs.Roles.{kind_lists, kinds_fit}
 use Rattle.page_words.specs.Seat.{SeatView, PairsAreWhole}
 use Rattle.nodes_in_words.specs.Nodes.{place_of, word_of, IsHeld, AreOfValid}
@@ -49,7 +49,7 @@ pairs_whole setup nodes v valid held types b i there role =
     let node = body_node nodes v b held.bodies there in
     let x : Node = node_at nodes node.0 in
     let typed : IsTyped setup (length nodes) x = All-get_or (IsTyped setup (length nodes)) nodes node.0 no_node node.1 (known_nodes setup nodes valid).typed in
-    let kinds : kinds_of (kind_lists v.types) b.ty ≡ x.object.kinds =
+    let kinds : kinds_of_type (kind_lists v.types) b.ty ≡ x.object.kinds =
     kinds_fit v.types b.ty ∙ ap (λ (ts : List ObjectType). kinds_in ts b.ty) types ∙ ap (λ (c : Body). kinds_in setup.types c.ty) node.3 ∙ sym typed.kinds_are
     in
     let both =

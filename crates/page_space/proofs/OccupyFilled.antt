@@ -4,10 +4,10 @@ use Rattle.std.specs.List.{Contains, filter}
 use Rattle.std.proofs.lemmas.Bool.{and_parts, leb-true, ltb-true, ne_eqb, cond-true, cond-false, cases_lt, cases_Bool, false_from_ne_true, both_ways, and_from, le-leb, lt-ltb, not_from_false, not-true}
 use Rattle.std.proofs.lemmas.List.{length-map, length-replicate, get_or-replicate}
 use Rattle.object_headers.specs.Layout.{header_word}
-use Rattle.gap_bounds.specs.SeatLaws.{IsReady}
+use Rattle.gap_bounds.specs.SeatLaws.{IsReadyToPublish}
 use Rattle.gc_graph.specs.State.{ObjectType}
 use Rattle.gap_bounds.specs.Seat.{SeatView, side, filled_with, published}
-use Rattle.gap_bounds.specs.Bodies.{end_of, has_word, in_body, IsInBody}
+use Rattle.gap_bounds.specs.Bodies.{end_of, body_has_word, in_body, IsInBody}
 use Rattle.gap_bounds.specs.Body.{Body}
 use Rattle.page_space.specs.Occupying.{HasNulls, IsNewNumber, IsRoom, Occupies, least_size, new_body, nulled}
 use Rattle.gc_graph.specs.Members.{Contains-cons, Contains-head, any_member, stays_in}
@@ -149,7 +149,7 @@ occupies_before old mid new fs b rest inside joins = record {
 -- a word that is said to be in a body is one of a body's
 body_with : (bodies : List Body) (x : ℕ) → in_body bodies x ≡ true → IsInBody bodies x
 body_with bodies x held =
-    let found = any_member (has_word x) bodies held in
+    let found = any_member (body_has_word x) bodies held in
     let b = found.0 in
     let both = and_parts (leb b.place x) (ltb x (end_of b)) found.2 in
     (b, found.1, leb-true b.place x both.0, ltb-true x (end_of b) both.1)
@@ -157,7 +157,7 @@ body_with bodies x held =
 pub ready_to_publish : (old : SeatView) (a ty size serial : ℕ) → IsRoom old size a
     → ty < length old.types → least_size old ty ≤ size → size < 2 ^ 26 → IsNewNumber old serial → serial < 2 ^ 32
     → HasNulls old.filled (a + 2) (size - 2)
-    → IsReady (side (filled_with (filled_with old a (header_word true false false ty size)) (a + 1) serial)) (new_body a ty size serial)
+    → IsReadyToPublish (side (filled_with (filled_with old a (header_word true false false ty size)) (a + 1) serial)) (new_body a ty size serial)
 ready_to_publish old a ty size serial room known least most unused number nulls =
     let inside : a + size ≤ old.count = room.inside in
     record {

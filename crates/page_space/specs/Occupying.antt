@@ -1,7 +1,7 @@
 -- A new object in free words.
 use Rattle.std.specs.Prelude.{◌≡◌, ◌≢◌, ℕ, zero, suc, ◌+◌, ◌-◌, ◌<◌, ◌≤◌, List, [], ◌∷◌, ◌++◌, replicate, Contains}
 use Rattle.object_headers.specs.Offsets.{first_field}
-use Rattle.gap_bounds.specs.Bodies.{IsInBody, kinds_of, word_count}
+use Rattle.gap_bounds.specs.Bodies.{IsInBody, kinds_of_type, field_word_count}
 use Rattle.gap_bounds.specs.Body.{Body}
 use Rattle.gap_bounds.specs.Roles.{kind_lists}
 use Rattle.gap_bounds.specs.Seat.{SeatView, filled_with, published}
@@ -13,7 +13,7 @@ pub record IsRoom (v : SeatView) (size a : ℕ) : Type 0 where
 
 -- the size of an object of the type without extra words: a header, a serial number and the type's fields
 abbrev pub least_size : SeatView → ℕ → ℕ
-least_size v ty = first_field + word_count (kinds_of (kind_lists v.types) ty)
+least_size v ty = first_field + field_word_count (kinds_of_type (kind_lists v.types) ty)
 
 -- no object has the serial number
 abbrev pub IsNewNumber : SeatView → ℕ → Type 0

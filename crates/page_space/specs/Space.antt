@@ -6,7 +6,7 @@ use Rattle.gc_graph.specs.PlacementLaw.{LiesInPage, TakesPages}
 use Rattle.object_headers.specs.declared.header.Header.{Header}
 use Rattle.gap_bounds.specs.Bodies.{end_of, IsPlace, holds}
 use Rattle.gap_bounds.specs.Body.{Body}
-use Rattle.gap_bounds.specs.SeatFacts.{IsTold}
+use Rattle.gap_bounds.specs.SeatFacts.{IsBitTold}
 use Rattle.atomic_table.specs.Seated.{TableId}
 use Rattle.gap_bounds.specs.Seat.{Heap, SeatView, block_words}
 use Rattle.page_space.specs.Pages.{PageTable, word_count, first_page, is_in_page, free_words}
@@ -104,8 +104,8 @@ IsFreePlace shape extents size a = Fits shape shape.pages extents size a ⊎ Sta
 pub record IsHeaderOf (v : SeatView) (b : Body) (header : Header) : Type 0 where
   pub ty : header.ty ≡ b.ty
   pub size : header.size ≡ b.size
-  pub mark : IsTold v.lent (holds v.marked b.place) header.mark
-  pub traced : IsTold v.lent (holds v.traced b.place) header.traced
+  pub mark : IsBitTold v.lent (holds v.marked b.place) header.mark
+  pub traced : IsBitTold v.lent (holds v.traced b.place) header.traced
 
 -- bit i of the word tells whether an object starts at the word i of the block
 abbrev pub AreStartsOf : List Body → ℕ → ℕ → Type 0

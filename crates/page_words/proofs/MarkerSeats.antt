@@ -13,7 +13,7 @@ use Rattle.marker_core.specs.Idle.{idle_view}
 use Rattle.marker_core.specs.Layout.{stop_at}
 use Rattle.marker_core.specs.Laws.{StepsKeep}
 use Rattle.marker_core.specs.MarkerFacts.{MarkerWordsMayBeFound, IsMarkerOk, MarkersAreOk}
-use Rattle.marker_core.specs.MarkerSeats.{beside}
+use Rattle.marker_core.specs.MarkerSeats.{seat_beside}
 use Rattle.marker_core.specs.Seats.{core_of}
 use Rattle.marker_core.specs.Views.{spent_view, view_at}
 use Rattle.page_words.specs.Heaps.{AreWords}
@@ -35,7 +35,7 @@ pub record Lent (s : State (Unit {0}) View) (id : ℕ) (w : View) : Type 0 where
   pub number : ℕ
   pub later : id ≡ suc number
   pub views : s.views ≡ owner_beside w mutator ∷ map (marker_view w) markers
-  pub ok : IsCoreOk (core_of (beside (marker_side_of w) mutator) s.words markers)
+  pub ok : IsCoreOk (core_of (seat_beside (marker_side_of w) mutator) s.words markers)
   pub there : view_at markers number ≡ w.marker
 
 -- the view of a seat that is not the first is a marker's
@@ -116,12 +116,12 @@ module _ (keep : StepsKeep) (law : MarkerWordsMayBeFound) (table : TableId) (slo
       let out : now.spent ≡ false = does.out mine.sure.out found in
       let words : List ℕ = set s.words at (writes found) in
       let markers : List MarkerView = set o.markers o.number now in
-      let before = core_of (beside (marker_side_of me.0) o.mutator) s.words o.markers in
-      let after = core_of (beside (marker_side_of me.0) o.mutator) (set s.words at (does.makes found)) markers in
+      let before = core_of (seat_beside (marker_side_of me.0) o.mutator) s.words o.markers in
+      let after = core_of (seat_beside (marker_side_of me.0) o.mutator) (set s.words at (does.makes found)) markers in
       let kept : IsCoreOk after =
       keep before after (does.step o.number) o.ok (does.law o.mutator s.words o.markers o.number o.ok o.there mine.sure.out) in
-      let ok : IsCoreOk (core_of (beside (marker_side_of me.0) o.mutator) words markers) =
-      subst (λ n. IsCoreOk (core_of (beside (marker_side_of me.0) o.mutator) (set s.words at n) markers)) (does.same found small) kept in
+      let ok : IsCoreOk (core_of (seat_beside (marker_side_of me.0) o.mutator) words markers) =
+      subst (λ n. IsCoreOk (core_of (seat_beside (marker_side_of me.0) o.mutator) (set s.words at n) markers)) (does.same found small) kept in
       let lives : (view_at o.markers o.number).spent ≡ false = ap (λ (m : MarkerView). m.spent) o.there ∙ mine.sure.out in (
         marked_to me.0 now,
         keeps,

@@ -12,7 +12,7 @@ use Rattle.marker_core.specs.Bodies.{IsInBody, IsPlace, holds}
 use Rattle.marker_core.specs.Hands.{wants, wants_word, wants_key, each_hand, hand_looked, hand_read, noted_pair}
 use Rattle.marker_core.specs.Layout.{bitmap_at, stop_at, has_mark}
 use Rattle.marker_core.specs.SeatSteps.{seat_can_load, seat_loaded, seat_can_store, seat_stored, seat_filled, seat_published, seat_retracted, seat_marked, seat_claimed, seat_unmarked, seat_ended, seat_looked}
-use Rattle.marker_core.specs.SeatLaws.{IsReady, IsGreyHeader, exchanged, seat_ends, LoadsAreSteps, FillsAreSteps, StoresAreSteps, PublishesAreSteps, RetractsAreSteps, MarksAreSteps, ClaimsAreSteps, UnmarksAreSteps, BeginsAreSteps, StopsAreSteps}
+use Rattle.marker_core.specs.SeatLaws.{IsReadyToPublish, IsGreyHeader, exchanged, seat_ends, LoadsAreSteps, FillsAreSteps, StoresAreSteps, PublishesAreSteps, RetractsAreSteps, MarksAreSteps, ClaimsAreSteps, UnmarksAreSteps, BeginsAreSteps, StopsAreSteps}
 use Rattle.page_words.specs.Roles.{kind_lists}
 use Rattle.page_words.specs.Rule.{IsStepOf}
 use Rattle.page_words.specs.Seat.{SeatView, IsView, IsUnnamed, MaySetStop, side, stop_set, begun, stopped}
@@ -70,7 +70,7 @@ loads law v a why can = record {
 
 -- ---- start bits
 
-pub publishes : PublishesAreSteps → (v : SeatView) (b : Body) (count a : ℕ) → IsReady (side v) b → b.place ≡ a → count ≡ v.count
+pub publishes : PublishesAreSteps → (v : SeatView) (b : Body) (count a : ℕ) → IsReadyToPublish (side v) b → b.place ≡ a → count ≡ v.count
     → IsStepOf v (count + a / 64) (λ n. bit_or n (1 * 2 ^ (a % 64) % 18446744073709551616)) (λ _. seat_published (side v) b)
 publishes law v b count a ready place same =
     let at : bitmap_at v.count b.place ≡ count + a / 64 = ap (λ n. bitmap_at n b.place) (sym same) ∙ ap (bitmap_at count) place in

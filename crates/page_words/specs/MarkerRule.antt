@@ -9,7 +9,7 @@ use Rattle.marker_core.specs.Core.{IsCoreOk}
 use Rattle.marker_core.specs.Idle.{idle_view}
 use Rattle.marker_core.specs.MarkerFacts.{MarkerMayFind}
 use Rattle.marker_core.specs.MarkerLaws.{IsMarkerStep}
-use Rattle.marker_core.specs.MarkerSeats.{MarkerSide, beside, seat_lent, seat_joined}
+use Rattle.marker_core.specs.MarkerSeats.{MarkerSide, seat_beside, seat_lent, seat_joined}
 use Rattle.marker_core.specs.Seats.{core_of}
 use Rattle.marker_core.specs.Views.{fresh_view, spent_view, view_at}
 use Rattle.page_words.specs.Heaps.{IsCount}
@@ -37,7 +37,7 @@ pub record IsSureMarker (v : View) : Type 0 where
   pub words : List ℕ
   pub markers : List MarkerView
   pub number : ℕ
-  pub ok : IsCoreOk (core_of (beside (marker_side_of v) mutator) words markers)
+  pub ok : IsCoreOk (core_of (seat_beside (marker_side_of v) mutator) words markers)
   pub there : view_at markers number ≡ v.marker
 
 -- a seat of the table is a marker's: it holds no slot and has a marker's view

@@ -13,7 +13,7 @@ use Rattle.type_table.specs.Layouts.{kinds_of_words}
 use Rattle.type_table.specs.TracedWords.{traced_from, offset_in}
 use Rattle.marker_core.specs.declared.states.Role.{Role}
 use Rattle.marker_core.specs.declared.states.Role.TheVariants.{StrongWord, WeakWord, KeyWord, ValueWord, PlainWord}
-use Rattle.marker_core.specs.Bodies.{refers, role_at, kinds_of, word_count}
+use Rattle.marker_core.specs.Bodies.{refers, role_at, kinds_of_type, field_word_count}
 use Rattle.marker_core.specs.Hands.{traced_offsets}
 
 -- the kinds of the fields of each type
@@ -21,7 +21,7 @@ abbrev pub kind_lists : List ObjectType → List (List Kind)
 kind_lists types = map (λ type. type.kinds) types
 
 -- the kinds of a type's fields are the same in the step machine's lists and in the table of types
-pub kinds_fit : (types : List ObjectType) (ty : ℕ) → kinds_of (kind_lists types) ty ≡ kinds_in types ty
+pub kinds_fit : (types : List ObjectType) (ty : ℕ) → kinds_of_type (kind_lists types) ty ≡ kinds_in types ty
 kinds_fit types ty = elim (cases_lt ty (length types)) [
   | inl low ↦ get_or-map (λ (type : ObjectType). type.kinds) types ty no_type [] low
   | inr past ↦
@@ -157,7 +157,7 @@ field_of_role (Pair ∷ kinds) (suc (suc i)) kind is e = one_later Pair kinds ki
 -- ---- how many words the fields take
 
 -- fields of these kinds take as many words in the step machine's count as in the graph's
-pub word_count_is : (kinds : List Kind) → word_count kinds ≡ field_words kinds
+pub word_count_is : (kinds : List Kind) → field_word_count kinds ≡ field_words kinds
 word_count_is [] = refl
 word_count_is (Strong ∷ kinds) = omega (arith, word_count_is kinds, sum_by-cons words_of_kind Strong kinds)
 word_count_is (Weak ∷ kinds) = omega (arith, word_count_is kinds, sum_by-cons words_of_kind Weak kinds)

@@ -9,7 +9,7 @@ ghost use Rattle.marker_core.specs.declared.states.Why.TheVariants.{Read, Weak};
 ghost use Rattle.marker_core.specs.Bodies.{IsInBody, IsPlace, holds};
 ghost use Rattle.marker_core.specs.Layout.{stop_at};
 ghost use Rattle.marker_core.specs.Laws.{IsLeastOver};
-ghost use Rattle.marker_core.specs.SeatLaws.{IsReady};
+ghost use Rattle.marker_core.specs.SeatLaws.{IsReadyToPublish};
 ghost use Rattle.marker_core.specs.SeatSteps.{is_grey, seat_can_load, seat_can_store};
 ghost use Rattle.page_words.specs.Heaps.{IsCount};
 ghost use Rattle.page_words.specs.Roles.{kind_lists};
@@ -59,7 +59,7 @@ pub trait Bodywords {
         ghost body: { Body }
         requires heap { seat.old.heap ≡ heap self.now }
         requires place { body.place ≡ a }
-        requires ready { IsReady (side seat.old) body }
+        requires ready { IsReadyToPublish (side seat.old) body }
         ensures { seat.new ≡ published seat.old body };
 
     fn retract(&self, seat: &mut MutatorSeat, a: u32)

@@ -7,7 +7,7 @@ ghost use Rattle.marker_core.specs.Bodies.{IsInBody, IsPlace, holds};
 ghost use Rattle.marker_core.specs.declared.states.Why.TheVariants.{Read, Weak};
 ghost use Rattle.marker_core.specs.Layout.{bitmap_at, stop_at};
 ghost use Rattle.marker_core.specs.Laws.{IsLeastOver};
-ghost use Rattle.marker_core.specs.SeatLaws.{IsReady};
+ghost use Rattle.marker_core.specs.SeatLaws.{IsReadyToPublish};
 ghost use Rattle.marker_core.specs.SeatSteps.{seat_can_load, seat_can_store};
 ghost use Rattle.page_words.specs.Roles.{kind_lists};
 ghost use Rattle.page_words.specs.Rule.{IsStepOf};
@@ -130,7 +130,7 @@ impl Words {
         ghost body: { Body }
         requires heap { seat.old.heap ≡ self.now }
         requires place { body.place ≡ a }
-        requires ready { IsReady (side seat.old) body }
+        requires ready { IsReadyToPublish (side seat.old) body }
         ensures { seat.new ≡ published seat.old body }
     {
         publishes_are_steps();

@@ -9,7 +9,7 @@ use Rattle.page_words.specs.Types.{kinds_of as kinds_in, offsets_of_kind}
 use Rattle.page_words.specs.Body.{Body}
 use Rattle.page_words.specs.Part.{Part}
 use Rattle.page_words.specs.Part.TheVariants.{Read, Value}
-use Rattle.page_words.specs.MachineBodies.{word_count, IsPlace}
+use Rattle.page_words.specs.MachineBodies.{field_word_count, IsPlace}
 use Rattle.page_words.specs.Hands.{part_found}
 use Rattle.page_words.specs.BodyPlaces.{whole_body, same_body, no_place_within}
 use Rattle.page_words.specs.Roles.{kinds_fit, word_count_is}
@@ -28,7 +28,7 @@ field_there v b kind offset view here there =
     let field = field_at_offset kind kinds offset there in
     let whole = whole_body v view b here in
     let words = word_count_is kinds in
-    let fit = ap word_count (kinds_fit v.types b.ty) in
+    let fit = ap field_word_count (kinds_fit v.types b.ty) in
     (omega (arith, field.2), omega (arith, field.2, field_below kind kinds field.0 field.1, whole.room, whole.fields, words, fit))
 
 -- the address of a field word is one of the heap

@@ -10,7 +10,7 @@ use Rattle.gc_graph.specs.State.{ObjectType}
 use Rattle.page_words.specs.Hand.{Hand}
 use Rattle.page_words.specs.Part.{Part}
 use Rattle.page_words.specs.Part.TheVariants.{Read}
-use Rattle.page_words.specs.MachineBodies.{kinds_of}
+use Rattle.page_words.specs.MachineBodies.{kinds_of_type}
 use Rattle.page_words.specs.Types.{kinds_of as kinds_in}
 use Rattle.page_words.specs.TracedWords.{traced_words_of, offset_in}
 use Rattle.page_words.specs.TracedWord.{TracedWord}
@@ -95,7 +95,7 @@ rising offset (Plain ∷ kinds) i j d before low = rising (offset + 1) kinds i j
 
 -- as a claim leaves it
 pub hand_first : (types : List ObjectType) (place ty : ℕ) → hand_past (kind_lists types) place ty 1 ≡ hand_over place ty (traced_in types ty)
-hand_first types place ty = past_low place ty 1 2 (kinds_of (kind_lists types) ty) (omega arith)
+hand_first types place ty = past_low place ty 1 2 (kinds_of_type (kind_lists types) ty) (omega arith)
 
 -- at each offset
 pub hand_each : (offsets : List ℕ) (place ty i : ℕ) → i < length offsets
@@ -106,7 +106,7 @@ hand_each offsets place ty i low = ap (hand_over place ty) (drop_more offsets i 
 pub hand_next : (types : List ObjectType) (place ty i : ℕ) (part : Part) → i < length (traced_in types ty)
     → hand_moved (kind_lists types) (record { place = place; ty = ty; next = get_or (traced_in types ty) i 0; part = part })
     ≡ hand_over place ty (drop (i + 1) (traced_in types ty))
-hand_next types place ty i part low = past_each place ty 2 (kinds_of (kind_lists types) ty) i 0 low
+hand_next types place ty i part low = past_each place ty 2 (kinds_of_type (kind_lists types) ty) i 0 low
 
 -- past all of them
 pub hand_last : (offsets : List ℕ) (place ty n : ℕ) → length offsets ≤ n → hand_over place ty (drop n offsets) ≡ None

@@ -8,7 +8,7 @@ use Rattle.page_words.specs.Body.{Body}
 use Rattle.page_words.specs.Hand.{Hand}
 use Rattle.page_words.specs.Part.{Part}
 use Rattle.page_words.specs.Part.TheVariants.{Read, Mark}
-use Rattle.page_words.specs.MachineBodies.{kinds_of, holds}
+use Rattle.page_words.specs.MachineBodies.{kinds_of_type, holds}
 use Rattle.page_words.specs.Hands.{traced_offsets, hand_past, hand_moved, part_found, role_at_hand, wants_word, each_hand}
 use Rattle.page_words.specs.Roles.{kind_lists}
 use Rattle.page_words.specs.Seat.{SeatView, IsAlone}
@@ -53,7 +53,7 @@ pub record OnlyLooks (old new : SeatView) : Type 0 where
 
 -- the offsets of the strong words and the pairs of objects of a type
 abbrev pub traced_in : List ObjectType → ℕ → List ℕ
-traced_in types ty = traced_offsets first_field (kinds_of (kind_lists types) ty)
+traced_in types ty = traced_offsets first_field (kinds_of_type (kind_lists types) ty)
 
 -- the object at the place, of the type, is in hand at the first of these offsets; nothing is where there are none
 abbrev pub hand_over : ℕ → ℕ → List ℕ → Option Hand

@@ -2,8 +2,8 @@
 use Rattle.std.proofs.Common.{◌≡◌, ℕ, zero, suc, ◌+◌, ◌<◌, ◌≤◌, false, [], ◌∷◌, leb, ltb, refl, sym, ap, ◌∙◌, subst, inl, inr, arith, Contains}
 use Rattle.std.proofs.lemmas.Bool.{and_parts, or_cases, ltb-true, false≢true, false_from_ne_true}
 use Rattle.marker_core.specs.declared.states.Body.{Body}
-use Rattle.marker_core.specs.Bodies.{word_in, has_word, in_body, IsPlace}
-use Rattle.marker_core.specs.SeatLaws.{IsReady}
+use Rattle.marker_core.specs.Bodies.{word_in, body_has_word, in_body, IsPlace}
+use Rattle.marker_core.specs.SeatLaws.{IsReadyToPublish}
 use Rattle.page_words.specs.Seat.{Heap, SeatView, side, empty_view, stored, begun}
 use Rattle.words_trials.specs.Objects.{strong_type, holder_at, filled_at, laid_at, two_objects}
 
@@ -26,7 +26,7 @@ second_fields : (heap : Heap) (i : ℕ) → i < 1 → Contains (filled_at (one_o
 second_fields heap zero low = (0, omega arith, refl)
 second_fields heap (suc i) low = absurd (omega (arith, low))
 
-pub first_ready : (heap : Heap) → heap.count ≡ 256 → IsReady (side (filled_at (new_heap heap) 0)) (holder_at 0)
+pub first_ready : (heap : Heap) → heap.count ≡ 256 → IsReadyToPublish (side (filled_at (new_heap heap) 0)) (holder_at 0)
 first_ready heap count = record {
   header = (2, omega arith, refl);
   serial = (1, omega arith, refl);
@@ -40,7 +40,7 @@ first_ready heap count = record {
 
 -- the first object has no word from 3 on, and another number
 outside_first : (a : ℕ) → 3 ≤ a → in_body (holder_at 0 ∷ []) a ≡ false
-outside_first a from = false_from_ne_true (in_body (holder_at 0 ∷ []) a) (λ is. elim (or_cases (has_word a (holder_at 0)) false is) [
+outside_first a from = false_from_ne_true (in_body (holder_at 0 ∷ []) a) (λ is. elim (or_cases (body_has_word a (holder_at 0)) false is) [
   | inl has ↦ (let parts = and_parts (leb 0 a) (ltb a 3) has in omega (arith, ltb-true a 3 parts.1, from))
   | inr none ↦ absurd (false≢true none)
 ])
@@ -53,7 +53,7 @@ another_number : (c : Body) → Contains (holder_at 0 ∷ []) c → c.serial ≡
 another_number c there e =
     let seven : 7 ≡ c.serial = ap (λ (b : Body). b.serial) (only_member (holder_at 0) c there) in omega (arith, seven, e)
 
-pub second_ready : (heap : Heap) → heap.count ≡ 256 → IsReady (side (filled_at (one_object heap) 3)) (holder_at 3)
+pub second_ready : (heap : Heap) → heap.count ≡ 256 → IsReadyToPublish (side (filled_at (one_object heap) 3)) (holder_at 3)
 second_ready heap count = record {
   header = (2, omega arith, refl);
   serial = (1, omega arith, refl);

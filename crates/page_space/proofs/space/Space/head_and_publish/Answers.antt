@@ -1,7 +1,7 @@
 use Rattle.std.proofs.Common.{◌≡◌, ℕ, length, ◌+◌, ◌-◌, ◌^◌, ◌<◌, ◌≤◌, true, false, ap, ◌∙◌, sym, subst, arith, rules}
 use Rattle.gap_bounds.specs.Bodies.{IsInBody}
 use Rattle.object_headers.specs.Layout.{header_word}
-use Rattle.gap_bounds.specs.SeatLaws.{IsReady}
+use Rattle.gap_bounds.specs.SeatLaws.{IsReadyToPublish}
 use Rattle.gap_bounds.specs.Seat.{SeatView, side, filled_with, published}
 use Rattle.page_space.specs.Pages.{word_count}
 use Rattle.page_space.specs.Space.{IsSeatOf, heap_of}
@@ -37,11 +37,11 @@ publish-requires g c =
     let head : c.fill-2.new.seat ≡ filled_with (filled_with c.args.seat.now c.args.a header) (c.args.a + 1) c.args.serial =
     head_filled c.args.seat.now c.fill.new.seat c.fill-2.new.seat c.args.a header c.args.serial c.pack.result c.from.result
     c.pack.ensures c.from.ensures c.fill.ensures c.fill-2.ensures in
-    let ready : IsReady (side c.fill-2.new.seat) (new_body c.args.a c.args.ty c.args.size c.args.serial) =
-    subst (λ (v : SeatView). IsReady (side v) (new_body c.args.a c.args.ty c.args.size c.args.serial)) (sym head)
+    let ready : IsReadyToPublish (side c.fill-2.new.seat) (new_body c.args.a c.args.ty c.args.size c.args.serial) =
+    subst (λ (v : SeatView). IsReadyToPublish (side v) (new_body c.args.a c.args.ty c.args.size c.args.serial)) (sym head)
     (ready_to_publish c.args.seat.now c.args.a c.args.ty c.args.size c.args.serial room known least most unused number nulls) in (
       ap (λ v. v.heap) head ∙ seat ∙ ap heap_of (sym c.self.view_is) ∙ sym c.self.invariant.words ∙ sym c.deref-3.ensures,
-      (ap (λ b. b.place) body, subst (IsReady (side c.fill-2.new.seat)) (sym body) ready),
+      (ap (λ b. b.place) body, subst (IsReadyToPublish (side c.fill-2.new.seat)) (sym body) ready),
     )
 
 pub returns : goal.returns

@@ -4,7 +4,7 @@ use Rattle.object_headers.specs.Layout.{IsHeaderWord}
 use Rattle.gap_bounds.specs.Body.{Body}
 use Rattle.gap_bounds.specs.Matching.{IsWhole}
 use Rattle.gap_bounds.specs.Layout.{has_mark, has_traced}
-use Rattle.gap_bounds.specs.SeatFacts.{IsTold, IsHeaderAt}
+use Rattle.gap_bounds.specs.SeatFacts.{IsBitTold, IsHeaderAt}
 use Rattle.gap_bounds.specs.Seat.{Heap, SeatView, side}
 use Rattle.gap_bounds.specs.Roles.{kind_lists}
 use Rattle.gap_bounds.specs.Bodies.{holds, is_place}
@@ -41,8 +41,8 @@ header_is c b has at =
     (record {
       ty = refl;
       size = refl;
-      mark = subst (λ a. IsTold v.lent (holds v.marked a) (has_mark w)) (sym at) told.mark;
-      traced = subst (λ a. IsTold v.lent (holds v.traced a) (has_traced w)) (sym at) told.traced;
+      mark = subst (λ a. IsBitTold v.lent (holds v.marked a) (has_mark w)) (sym at) told.mark;
+      traced = subst (λ a. IsBitTold v.lent (holds v.traced a) (has_traced w)) (sym at) told.traced;
     })
 
 pub returns-clause-header : goal.returns-clause-header
