@@ -10,7 +10,7 @@ use Rattle.gc_graph.specs.declared.kind.Value.TheVariants.{Null, Ref, Word}
 use Rattle.gc_graph.specs.State.{Setup, ObjectType, Node, node_at, type_at, no_node, IsLive, IsDead}
 use Rattle.gc_graph.specs.Fields.{field_words, is_plain}
 use Rattle.gc_graph.specs.Valid.{IsTyped, IsReferenceBelow, NamesLive}
-use Rattle.type_table.specs.Types.{kinds_of}
+use Rattle.type_table.specs.Types.{declared_kinds}
 use Rattle.type_table.specs.Layouts.{kinds_of_words}
 use Rattle.marker_core.specs.Bodies.{IsReference}
 use Rattle.marker_core.specs.declared.states.Body.{Body}
@@ -55,7 +55,7 @@ body_reference setup nodes v b i is there told =
     let live : IsLive nodes node.0 = live_if_there x.life node.2 (is.alive node.0) in
     let typed : IsTyped setup (length nodes) x = All-get_or (IsTyped setup (length nodes)) nodes node.0 no_node node.1 is.known.typed in
     let kind : is_plain (get_or (kinds_of_words x.object.kinds) i Plain) ≡ false =
-    ap (λ ks. is_plain (get_or (kinds_of_words ks) i Plain)) (typed.kinds_are ∙ sym (ap (λ (c : Body). kinds_of setup.types c.ty) node.3)) ∙ told in
+    ap (λ ks. is_plain (get_or (kinds_of_words ks) i Plain)) (typed.kinds_are ∙ sym (ap (λ (c : Body). declared_kinds setup.types c.ty) node.3)) ∙ told in
     subst (IsReference v.bodies) (sym (ap (λ (c : Body). get_or c.fields i 0) node.3))
     (reference_word (place_of nodes) v (length nodes) (NamesLive nodes) (λ y named below. live_reference nodes v (length nodes) y is.held named below)
     x.object.kinds x.object.values i typed.values_are (is.known.references node.0 live) kind)
@@ -69,7 +69,7 @@ body_typed setup nodes v b is there =
     omega (arith, typed.ty, ap (λ (c : Body). c.ty) node.3)
 
 body_whole : (setup : Setup) (nodes : List Node) (v : SeatView) (b : Body) → AreAlive setup nodes v → Contains v.bodies b
-    → field_words (kinds_of setup.types b.ty) ≤ length b.fields
+    → field_words (declared_kinds setup.types b.ty) ≤ length b.fields
 body_whole setup nodes v b is there =
     let node = body_node nodes v b is.held there in
     let x : Node = node_at nodes node.0 in
@@ -83,7 +83,7 @@ pub marked_references : (kind : Kind) (setup : Setup) (nodes : List Node) (v : S
     → AreAlive setup nodes v → MarkedHaveReferencesOf kind v
 marked_references kind setup nodes v reference types is b there marked = record {
   typed = subst (λ (ts : List ObjectType). b.ty < length ts) (sym types) (body_typed setup nodes v b is there);
-  whole = subst (λ (ts : List ObjectType). field_words (kinds_of ts b.ty) ≤ length b.fields) (sym types) (body_whole setup nodes v b is there);
+  whole = subst (λ (ts : List ObjectType). field_words (declared_kinds ts b.ty) ≤ length b.fields) (sym types) (body_whole setup nodes v b is there);
   named = λ i told.
       body_reference setup nodes v b i is there (ap is_plain (sym (ap (λ (ts : List ObjectType). kind_in ts b i) types) ∙ told) ∙ reference);
 }

@@ -5,7 +5,7 @@ use Rattle.gc_graph.specs.declared.kind.Kind.TheVariants.{Strong, Weak, Pair, Pl
 use Rattle.gc_graph.specs.State.{ObjectType}
 use Rattle.gc_graph.specs.Fields.{field_words}
 use Rattle.gc_graph.specs.Members.{Contains-map, Contains-map_some}
-use Rattle.type_table.specs.Types.{kinds_of}
+use Rattle.type_table.specs.Types.{declared_kinds}
 use Rattle.type_table.specs.Layouts.{kinds_of_words}
 use Rattle.marker_core.specs.Bodies.{IsReference, holds}
 use Rattle.marker_core.specs.declared.states.Body.{Body}
@@ -39,7 +39,7 @@ record StaysOf (types : List ObjectType) (old new : Body) : Type 0 where
 body_stays : (types : List ObjectType) (marked : List ℕ) (b : Body) → StaysOf types b (clear_body types marked b)
 body_stays types marked b = go (holds marked b.place) where
   kinds : List Kind
-  kinds = kinds_of_words (kinds_of types b.ty)
+  kinds = kinds_of_words (declared_kinds types b.ty)
 
   cleared : Body
   cleared = record b { fields = clear_words marked kinds b.fields }
@@ -71,10 +71,10 @@ pair_references_stay v are b there marked =
     let has : HasReferencesOf Pair v.types v.bodies old = are old from.1 (subst (λ p. holds v.marked p ≡ true) stays.place marked) in
     record {
       typed = subst (λ t. t < length v.types) (sym stays.ty) has.typed;
-      whole = subst (λ t. field_words (kinds_of v.types t) ≤ length b.fields) (sym stays.ty)
-          (subst (λ n. field_words (kinds_of v.types old.ty) ≤ n) (sym stays.size) has.whole);
+      whole = subst (λ t. field_words (declared_kinds v.types t) ≤ length b.fields) (sym stays.ty)
+          (subst (λ n. field_words (declared_kinds v.types old.ty) ≤ n) (sym stays.size) has.whole);
       named = λ i told.
-          let kind : kind_in v.types old i ≡ Pair = sym (ap (λ t. get_or (kinds_of_words (kinds_of v.types t)) i Plain) stays.ty) ∙ told in
+          let kind : kind_in v.types old i ≡ Pair = sym (ap (λ t. get_or (kinds_of_words (declared_kinds v.types t)) i Plain) stays.ty) ∙ told in
           reference_stays v.types v.marked v.bodies (get_or b.fields i 0) (subst (IsReference v.bodies) (sym (stays.pairs i kind)) (has.named i kind));
     }
 

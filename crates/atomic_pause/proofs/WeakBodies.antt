@@ -11,7 +11,7 @@ use Rattle.gc_graph.specs.State.{ObjectType, Node, is_live, is_there, IsLive, si
 use Rattle.gc_graph.specs.Valid.{HaveKinds, IsReferenceBelow, NamesLive}
 use Rattle.gc_graph.specs.Pause.{names_dead, cleared_values, with_cleared, clear_node}
 use Rattle.gc_graph.specs.Condemning.{length-cleared}
-use Rattle.type_table.specs.Types.{kinds_of}
+use Rattle.type_table.specs.Types.{declared_kinds}
 use Rattle.type_table.specs.Layouts.{kinds_of_words}
 use Rattle.marker_core.specs.declared.states.Body.{Body}
 use Rattle.marker_core.specs.Bodies.{holds}
@@ -96,7 +96,7 @@ pub record Clears (types : List ObjectType) (marked : List ℕ) (f : ℕ → ℕ
   pub kept : is_live x.life ≡ true → holds marked x.place ≡ true
   pub words :
       is_live x.life ≡ true
-      → cleared_both marked (kinds_of types x.object.ty) (map (word_of f) x.object.values)
+      → cleared_both marked (declared_kinds types x.object.ty) (map (word_of f) x.object.values)
       ≡ map (word_of f) (cleared_values dead x.object.kinds x.object.values)
   pub left : is_there x.life ≡ true → is_live x.life ≡ false → holds marked x.place ≡ false
 
@@ -112,7 +112,7 @@ body_cleared : (types : List ObjectType) (marked : List ℕ) (f : ℕ → ℕ) (
     → clear_both types marked (body_of f k x) ≡ body_of f k (clear_node dead x)
 body_cleared types marked f dead k x there is =
     let old : Body = body_of f k x in
-    let kinds : List Kind = kinds_of types x.object.ty in
+    let kinds : List Kind = declared_kinds types x.object.ty in
     let weak : List ℕ = clear_words marked (kinds_of_words kinds) (map (word_of f) x.object.values) in
     let both : List ℕ = cleared_both marked kinds (map (word_of f) x.object.values) in
     let old_both : List ℕ = clear_pair_words marked kinds (map (word_of f) x.object.values) in

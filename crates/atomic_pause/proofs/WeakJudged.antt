@@ -13,7 +13,7 @@ use Rattle.gc_graph.specs.ActionLaw.{HaveStayed}
 use Rattle.gc_graph.specs.Pause.{judged, condemn, is_dead_at, clear_slot, cleared_values}
 use Rattle.gc_graph.specs.Condemning.{length-condemn}
 use Rattle.gc_graph.specs.Members.{Contains-map}
-use Rattle.type_table.specs.Types.{kinds_of}
+use Rattle.type_table.specs.Types.{declared_kinds}
 use Rattle.type_table.specs.Layouts.{kinds_of_words}
 use Rattle.marker_core.specs.declared.states.Body.{Body}
 use Rattle.marker_core.specs.Bodies.{IsPlace, holds}
@@ -82,14 +82,14 @@ both_cleared v = with_pairs_cleared (with_weak_cleared v)
 -- the words of a live node's object are cleared as its values are
 object_words : (setup : Setup) (nodes : List Node) (v : SeatView) (n : ℕ) → IsMarked setup nodes v → n < length nodes → IsLive nodes n
     → (o : Object) → o ≡ (node_at nodes n).object
-    → cleared_both v.marked (kinds_of setup.types o.ty) (map (word_of (place_of nodes)) o.values)
+    → cleared_both v.marked (declared_kinds setup.types o.ty) (map (word_of (place_of nodes)) o.values)
     ≡ map (word_of (place_of nodes)) (cleared_values (is_dead_at (condemn (kept_of (holds v.marked) nodes) nodes)) o.kinds o.values)
 object_words setup nodes v n is low live o same =
     let dead : ℕ → Bool = is_dead_at (condemn (kept_of (holds v.marked) nodes) nodes) in
     let f : ℕ → ℕ = place_of nodes in
     let x : Node = node_at nodes n in
     let typed : IsTyped setup (length nodes) x = All-get_or (IsTyped setup (length nodes)) nodes n no_node low is.known.typed in
-    subst (λ (p : Object). cleared_both v.marked (kinds_of setup.types p.ty) (map (word_of f) p.values) ≡ map (word_of f) (cleared_values dead p.kinds p.values)) (sym same)
+    subst (λ (p : Object). cleared_both v.marked (declared_kinds setup.types p.ty) (map (word_of f) p.values) ≡ map (word_of f) (cleared_values dead p.kinds p.values)) (sym same)
     (ap (λ (ks : List Kind). cleared_both v.marked ks (map (word_of f) x.object.values)) (sym typed.kinds_are)
     ∙ cleared_words nodes v.marked f dead (length nodes) x.object.kinds x.object.values (tells_unmarked nodes v) typed.values_are
     (is.known.references n live))
@@ -132,7 +132,7 @@ held_after setup nodes v is =
 weak_keeps : (types : List ObjectType) (marked : List ℕ) → KeepsExtents (clear_body types marked)
 weak_keeps types marked b = go (holds marked b.place) where
   cleared : Body
-  cleared = record b { fields = clear_words marked (kinds_of_words (kinds_of types b.ty)) b.fields }
+  cleared = record b { fields = clear_words marked (kinds_of_words (declared_kinds types b.ty)) b.fields }
 
   go : (flag : Bool) → ((cond flag cleared b).place ≡ b.place) × ((cond flag cleared b).size ≡ b.size)
   go true = (refl, refl)
@@ -141,7 +141,7 @@ weak_keeps types marked b = go (holds marked b.place) where
 pairs_keep : (types : List ObjectType) (marked : List ℕ) → KeepsExtents (clear_pairs_of types marked)
 pairs_keep types marked b = go (holds marked b.place) where
   cleared : Body
-  cleared = record b { fields = clear_pair_words marked (kinds_of types b.ty) b.fields }
+  cleared = record b { fields = clear_pair_words marked (declared_kinds types b.ty) b.fields }
 
   go : (flag : Bool) → ((cond flag cleared b).place ≡ b.place) × ((cond flag cleared b).size ≡ b.size)
   go true = (refl, refl)

@@ -7,7 +7,7 @@ ghost use Rattle.gc_graph.specs.State.{slot_targets};
 ghost use Rattle.gc_graph.specs.May.{members};
 ghost use Rattle.gc_graph.specs.Pause.{live_count, dead_count, is_dead_at, clear_slot};
 ghost use Rattle.callback_table.specs.Registry.{IsRegistered};
-ghost use Rattle.callback_table.specs.Table.{kinds_of};
+ghost use Rattle.callback_table.specs.Table.{callback_kinds};
 ghost use Rattle.mark_worklist.specs.Refusals.{TellsRefused, refusals_of};
 ghost use Rattle.marker_core.specs.Bodies.{IsPlace, holds};
 ghost use Rattle.weak_clearing.specs.Space.{IsSpaceOf, extents_of_bodies};
@@ -45,7 +45,7 @@ pub fn pause(parts: Parts, notes: &mut [Pairs], stack: &[u64], precise: bool) ->
     requires heap { IsSpaceOf parts.space.now parts.seat.now }
     requires types { parts.seat.now.types ≡ parts.types.now }
     requires valid { AreOfValid
-        (setup_in_space parts.space.now parts.types.now (kinds_of parts.callbacks.now))
+        (setup_in_space parts.space.now parts.types.now (callback_kinds parts.callbacks.now))
         parts.nodes.now.value }
     requires held { IsHeld parts.nodes.now.value parts.seat.now }
     requires few { length parts.nodes.now.value ≤ 1000000 }
@@ -57,12 +57,12 @@ pub fn pause(parts: Parts, notes: &mut [Pairs], stack: &[u64], precise: bool) ->
     requires strong { All (λ slot. ForSome slot (IsPlace parts.seat.now.bodies)) parts.strong.now }
     requires weak { All (IsPlace parts.seat.now.bodies) (taken parts.weak.now) }
     requires registered { All (IsRegistered parts.nodes.now.value
-        (length (kinds_of parts.callbacks.now))) parts.registry.now.entries }
+        (length (callback_kinds parts.callbacks.now))) parts.registry.now.entries }
     requires shared { IsPausable parts.nodes.now.value parts.region.now parts.pass.now }
     ensures paused { (slots : List (Option ℕ)) (may : List Bool) →
         NamePlaces parts.entry.nodes.now.value slots parts.entry.strong.now →
         IsMayWithin parts.entry.nodes.now.value parts.entry.seat.now may →
-        IsPaused (kinds_of parts.entry.callbacks.now)
+        IsPaused (callback_kinds parts.entry.callbacks.now)
         (slot_targets slots ++ shared_roots parts.entry.region.now
         ++ hits_in precise parts.entry.nodes.now.value stack.now)
         (members may ++ shared_roots parts.entry.region.now

@@ -7,7 +7,7 @@ ghost use Rattle.gc_graph.specs.ActionLaw.{HaveStayed};
 ghost use Rattle.gc_graph.specs.Pause.{run_order, prefinalised};
 ghost use Rattle.callback_table.specs.Registry.{IsRegistered, registrations_of};
 ghost use Rattle.callback_table.specs.Registry.{pairs_run, entries_left};
-ghost use Rattle.callback_table.specs.Table.{kinds_of};
+ghost use Rattle.callback_table.specs.Table.{callback_kinds};
 ghost use Rattle.weak_clearing.specs.Space.{extents_of_bodies};
 ghost use Rattle.prefinalizer_effects.specs.Prepared.{IsPrepared};
 
@@ -29,9 +29,9 @@ pub fn prefinalise(
     nodes: &mut GhostValue<NodeLists>,
 )
     requires ready { IsPrepared space.now types.now seat.old nodes.old.value }
-    requires registered { All (IsRegistered nodes.old.value (length (kinds_of callbacks.now)))
+    requires registered { All (IsRegistered nodes.old.value (length (callback_kinds callbacks.now)))
         registry.old.entries }
-    ensures nodes { nodes.new.value ≡ prefinalised (kinds_of callbacks.now)
+    ensures nodes { nodes.new.value ≡ prefinalised (callback_kinds callbacks.now)
         (run_order nodes.old.value (registrations_of registry.old.entries)) nodes.old.value }
     ensures ran { registry.new.ran ≡ pairs_run nodes.old.value registry.old.entries }
     ensures left { registry.new.entries ≡ entries_left nodes.old.value registry.old.entries }

@@ -5,7 +5,7 @@ ghost use Rattle.gc_graph.specs.Pause.{dies, run_order, prefinalised};
 ghost use Rattle.callback_table.specs.Bodies.{StandsAt};
 ghost use Rattle.callback_table.specs.Registry.{IsRegistered, registration_of, registrations_of};
 ghost use Rattle.callback_table.specs.Registry.{pairs_run, entries_left};
-ghost use Rattle.callback_table.specs.Table.{kinds_of};
+ghost use Rattle.callback_table.specs.Table.{callback_kinds};
 
 use crate::bodies::Bodies;
 use crate::registry::{Registered, Registry};
@@ -17,8 +17,8 @@ impl Registry {
     pub fn run_dead<B: Bodies>(&mut self, table: &CallbackTable, bodies: &mut B)
         requires ready { B.is_ready bodies.old }
         requires registered { All (IsRegistered (B.nodes bodies.old)
-            (length (kinds_of table.now))) self.old.entries }
-        ensures nodes { B.nodes bodies.new ≡ prefinalised (kinds_of table.now)
+            (length (callback_kinds table.now))) self.old.entries }
+        ensures nodes { B.nodes bodies.new ≡ prefinalised (callback_kinds table.now)
             (run_order (B.nodes bodies.old) (registrations_of self.old.entries))
             (B.nodes bodies.old) }
         ensures ran { self.new.ran ≡ pairs_run (B.nodes bodies.old) self.old.entries }
@@ -52,13 +52,16 @@ fn run_if_dead<B: Bodies>(
     shown: &mut [u64; 64],
 ) -> bool
     requires ready { B.is_ready bodies.old }
-    requires registered { IsRegistered (B.nodes bodies.old) (length (kinds_of table.now)) entry }
+    requires registered { IsRegistered (B.nodes bodies.old)
+        (length (callback_kinds table.now)) entry }
     ensures answer { result ≡ dies (B.nodes bodies.old) (registration_of entry) }
     ensures nodes { B.nodes bodies.new ≡ (if result
-        then prefinalised (kinds_of table.now) (registration_of entry ∷ []) (B.nodes bodies.old)
+        then prefinalised (callback_kinds table.now)
+        (registration_of entry ∷ []) (B.nodes bodies.old)
         else B.nodes bodies.old) }
     ensures ready { B.is_ready bodies.new }
-    ensures registered { IsRegistered (B.nodes bodies.new) (length (kinds_of table.now)) entry }
+    ensures registered { IsRegistered (B.nodes bodies.new)
+        (length (callback_kinds table.now)) entry }
     ensures rest { B.keeps bodies.old bodies.new }
 {
     let dead = bodies.dead(entry.place);
@@ -71,11 +74,14 @@ fn run_if_dead<B: Bodies>(
 /// Calls the callback with the shown words of the object, and does what it answers.
 fn run<B: Bodies>(entry: Registered, table: &CallbackTable, bodies: &mut B, shown: &mut [u64; 64])
     requires ready { B.is_ready bodies.old }
-    requires registered { IsRegistered (B.nodes bodies.old) (length (kinds_of table.now)) entry }
+    requires registered { IsRegistered (B.nodes bodies.old)
+        (length (callback_kinds table.now)) entry }
     ensures nodes { B.nodes bodies.new
-        ≡ prefinalised (kinds_of table.now) (registration_of entry ∷ []) (B.nodes bodies.old) }
+        ≡ prefinalised (callback_kinds table.now)
+        (registration_of entry ∷ []) (B.nodes bodies.old) }
     ensures ready { B.is_ready bodies.new }
-    ensures registered { IsRegistered (B.nodes bodies.new) (length (kinds_of table.now)) entry }
+    ensures registered { IsRegistered (B.nodes bodies.new)
+        (length (callback_kinds table.now)) entry }
     ensures rest { B.keeps bodies.old bodies.new }
 {
     let count = bodies.words(entry.place, shown);

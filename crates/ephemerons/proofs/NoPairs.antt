@@ -6,7 +6,7 @@ use Rattle.gc_graph.specs.State.{ObjectType}
 use Rattle.gc_graph.specs.declared.kind.Kind.{Kind}
 use Rattle.gc_graph.specs.declared.kind.Kind.TheVariants.{Strong, Pair}
 use Rattle.mark_worklist.specs.Told.{told_same}
-use Rattle.type_table.specs.Types.{kinds_of as kinds_in, offsets_of_kind}
+use Rattle.type_table.specs.Types.{declared_kinds, offsets_of_kind}
 use Rattle.type_table.specs.TracedWords.{traced_words_of}
 use Rattle.type_table.specs.TracedLaws.{strong_told, pairs_told, all_strong}
 use Rattle.marker_core.specs.declared.states.Body.{Body}
@@ -42,7 +42,7 @@ strong_alone kinds none =
 
 -- the strong fields of an object's type are all that the hand comes to
 pub all_traced : (types : List ObjectType) (v : SeatView) (place ty : ℕ) (told : List ℕ) → IsView v → v.types ≡ types → HaveNoPairs types
-    → HasType v.bodies place ty → told ≡ offsets_of_kind Strong (kinds_in types ty) → traced_in v.types ty ≡ told
+    → HasType v.bodies place ty → told ≡ offsets_of_kind Strong (declared_kinds types ty) → traced_in v.types ty ≡ told
 all_traced types v place ty told view known none has is =
     let low : ty < length types = omega (arith, known_type v view has.0 has.1, has.3, ap length known) in
-    ap (λ ts. traced_in ts ty) known ∙ ap (traced_offsets 2) (kinds_fit types ty) ∙ sym (strong_alone (kinds_in types ty) (none ty low)) ∙ sym is
+    ap (λ ts. traced_in ts ty) known ∙ ap (traced_offsets 2) (kinds_fit types ty) ∙ sym (strong_alone (declared_kinds types ty) (none ty low)) ∙ sym is

@@ -5,7 +5,7 @@ use Rattle.std.proofs.lemmas.Bool.{true≢false}
 use Rattle.std.proofs.lemmas.List.Elements.{Contains-get_or}
 use Rattle.gc_graph.specs.declared.kind.Kind.TheVariants.{Pair}
 use Rattle.gc_graph.specs.State.{ObjectType}
-use Rattle.type_table.specs.Types.{kinds_of, offsets_of_kind}
+use Rattle.type_table.specs.Types.{declared_kinds, offsets_of_kind}
 use Rattle.marker_core.specs.Bodies.{IsReference, holds}
 use Rattle.marker_core.specs.declared.states.Body.{Body}
 use Rattle.page_words.specs.Seat.{SeatView, IsView}
@@ -28,12 +28,12 @@ marked_key v w told reference named null so = elim reference [
 ]
 
 pub told_pair : (types : List ObjectType) (bodies : List Body) (place ty k : ℕ) (told : List ℕ) → HasType bodies place ty
-    → told ≡ offsets_of_kind Pair (kinds_of types ty) → k < length told → HasPair types bodies place (get_or told k 0)
+    → told ≡ offsets_of_kind Pair (declared_kinds types ty) → k < length told → HasPair types bodies place (get_or told k 0)
 told_pair types bodies place ty k told has is low = (
   has.0,
   has.1,
   has.2,
-  subst (λ l. Contains l (get_or told k 0)) (is ∙ ap (λ t. offsets_of_kind Pair (kinds_of types t)) (sym has.3)) (Contains-get_or told k 0 low),
+  subst (λ l. Contains l (get_or told k 0)) (is ∙ ap (λ t. offsets_of_kind Pair (declared_kinds types t)) (sym has.3)) (Contains-get_or told k 0 low),
 )
 
 -- the value of a pair may be kept where holder and key are marked
@@ -49,7 +49,7 @@ pub pair_settled : (types : List ObjectType) (v : SeatView) (holder word : ℕ) 
     → ((b : Body) (k w : ℕ) → Contains v.bodies b → b.place ≡ holder → word_at b word ≡ k + 1 → word_at b (word + 1) ≡ w + 1 → holds v.marked holder ≡ true
     → holds v.marked k ≡ true → holds v.marked w ≡ true) → IsSettled types v (note_of holder word)
 pair_settled types v holder word has value =
-    let field = field_at_offset Pair (kinds_of types has.0.ty) word has.3 in
+    let field = field_at_offset Pair (declared_kinds types has.0.ty) word has.3 in
     record {
       traced = λ zero marked. absurd (omega (arith, zero, field.2));
       value = λ b k w there at pair. value b k w there at;

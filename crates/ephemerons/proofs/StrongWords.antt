@@ -5,7 +5,7 @@ use Rattle.std.proofs.lemmas.List.{get_or_append_left, length-append}
 use Rattle.gc_graph.specs.declared.kind.Kind.{Kind}
 use Rattle.gc_graph.specs.declared.kind.Kind.TheVariants.{Strong, Pair}
 use Rattle.gc_graph.specs.State.{ObjectType}
-use Rattle.type_table.specs.Types.{kinds_of, offsets_of_kind}
+use Rattle.type_table.specs.Types.{declared_kinds, offsets_of_kind}
 use Rattle.mark_worklist.specs.declared.marking.Marking.{Marking}
 use Rattle.marker_core.specs.declared.states.Body.{Body}
 use Rattle.marker_core.specs.declared.states.Part.TheVariants.{Read}
@@ -22,14 +22,14 @@ use Rattle.ephemerons.proofs.MarkSteps.{same_bodies}
 -- u is the view at first, and v has the same objects, of the same types
 module _ (u v : SeatView) (bodies : v.bodies ≡ u.bodies) (types : v.types ≡ u.types) (place ty : ℕ) (has : HasType u.bodies place ty) where
   -- a field of the object is one of those of its type
-  among_fields : (kind : Kind) (offset : ℕ) → Contains (offsets_of_kind kind (kinds_of u.types ty)) offset
-      → Contains (offsets_of_kind kind (kinds_of v.types has.0.ty)) offset
+  among_fields : (kind : Kind) (offset : ℕ) → Contains (offsets_of_kind kind (declared_kinds u.types ty)) offset
+      → Contains (offsets_of_kind kind (declared_kinds v.types has.0.ty)) offset
   among_fields kind offset there =
-      subst (λ t. Contains (offsets_of_kind kind (kinds_of v.types t)) offset) (sym has.3)
-      (subst (λ (ts : List ObjectType). Contains (offsets_of_kind kind (kinds_of ts ty)) offset) (sym types) there)
+      subst (λ t. Contains (offsets_of_kind kind (declared_kinds v.types t)) offset) (sym has.3)
+      (subst (λ (ts : List ObjectType). Contains (offsets_of_kind kind (declared_kinds ts ty)) offset) (sym types) there)
 
   -- the hand is at a strong field
-  pub at_strong_field : (offset : ℕ) → Contains (offsets_of_kind Strong (kinds_of u.types ty)) offset
+  pub at_strong_field : (offset : ℕ) → Contains (offsets_of_kind Strong (declared_kinds u.types ty)) offset
       → v.hand ≡ Some (record { place = place; ty = ty; next = offset; part = Read }) → IsAt strong_offsets v place offset Read
   at_strong_field offset there is = record {
     body = has.0;
@@ -40,7 +40,7 @@ module _ (u v : SeatView) (bodies : v.bodies ≡ u.bodies) (types : v.types ≡ 
   }
 
   -- or at a pair
-  pub at_pair_field : (offset : ℕ) → Contains (offsets_of_kind Pair (kinds_of u.types ty)) offset
+  pub at_pair_field : (offset : ℕ) → Contains (offsets_of_kind Pair (declared_kinds u.types ty)) offset
       → v.hand ≡ Some (record { place = place; ty = ty; next = offset; part = Read }) → IsAt pair_offsets v place offset Read
   at_pair_field offset there is = record {
     body = has.0;
@@ -52,7 +52,7 @@ module _ (u v : SeatView) (bodies : v.bodies ≡ u.bodies) (types : v.types ≡ 
 
   -- where the first words that the hand comes to are strong fields
   pub at_next_strong : (offsets : List ℕ) (i : ℕ) → i < length offsets → BeginsWith (traced_in u.types ty) offsets
-      → Contains (offsets_of_kind Strong (kinds_of u.types ty)) (get_or offsets i 0) → v.hand ≡ hand_over place ty (drop i (traced_in u.types ty))
+      → Contains (offsets_of_kind Strong (declared_kinds u.types ty)) (get_or offsets i 0) → v.hand ≡ hand_over place ty (drop i (traced_in u.types ty))
       → IsAt strong_offsets v place (get_or offsets i 0) Read
   at_next_strong offsets i low first there is =
       let all : List ℕ = traced_in u.types ty in
@@ -62,14 +62,14 @@ module _ (u v : SeatView) (bodies : v.bodies ≡ u.bodies) (types : v.types ≡ 
       (hand_at_each all v place ty i within is ∙ ap (λ o. Some (record { place = place; ty = ty; next = o; part = Read })) same)
 
 -- what the strong fields of the object name is marked, where that is so of all offsets that the table tells for its type
-pub all_named : (u w : SeatView) (place ty : ℕ) (told : List ℕ) → IsView u → HasType u.bodies place ty → told ≡ offsets_of_kind Strong (kinds_of u.types ty)
+pub all_named : (u w : SeatView) (place ty : ℕ) (told : List ℕ) → IsView u → HasType u.bodies place ty → told ≡ offsets_of_kind Strong (declared_kinds u.types ty)
     → w.bodies ≡ u.bodies → ((offset : ℕ) → Contains told offset → HasTargetMarked w place offset) → HasStrongMarked u.types w place
 all_named u w place ty told view has is same named b offset q there at strong names =
     let first : Contains u.bodies b = subst (λ bs. Contains bs b) same there in
     let one : b ≡ has.0 = same_body u b has.0 view first has.1 (at ∙ sym has.2) in
     named offset
     (subst (λ l. Contains l offset)
-    (ap (λ (x : Body). strong_offsets u.types x) one ∙ ap (λ t. offsets_of_kind Strong (kinds_of u.types t)) has.3 ∙ sym is) strong) b q there at names
+    (ap (λ (x : Body). strong_offsets u.types x) one ∙ ap (λ t. offsets_of_kind Strong (declared_kinds u.types t)) has.3 ∙ sym is) strong) b q there at names
 
 -- what is marked stays so
 pub target_stays : (v w : SeatView) (m n : Marking) (place offset : ℕ) → ListsMarks v m w n → HasTargetMarked v place offset → HasTargetMarked w place offset

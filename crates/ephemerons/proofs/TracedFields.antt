@@ -8,7 +8,7 @@ use Rattle.gc_graph.specs.declared.kind.Kind.TheVariants.{Strong, Pair}
 use Rattle.gc_graph.specs.State.{ObjectType}
 use Rattle.type_table.specs.declared.traced.TracedWord.{TracedWord}
 use Rattle.type_table.specs.declared.traced.TracedWord.TheVariants.{StrongAt, PairAt}
-use Rattle.type_table.specs.Types.{kinds_of as kinds_in, offsets_of_kind}
+use Rattle.type_table.specs.Types.{declared_kinds, offsets_of_kind}
 use Rattle.type_table.specs.TracedWords.{traced_words_of, offset_in}
 use Rattle.type_table.specs.TracedLaws.{strong_told, pairs_told, strong_there, strong_back, pair_there, pair_back}
 use Rattle.mark_worklist.specs.declared.marking.Marking.{Marking}
@@ -29,7 +29,7 @@ use Rattle.ephemerons.proofs.MarkSteps.{same_bodies}
 use Rattle.ephemerons.proofs.StrongWords.{at_strong_field, at_pair_field, all_named, target_stays}
 
 -- no pair that was told before is told again
-pub told_apart : (types : List ObjectType) (ty : ℕ) (told : List TracedWord) → told ≡ traced_words_of (kinds_in types ty) → (i : ℕ) → i < length told
+pub told_apart : (types : List ObjectType) (ty : ℕ) (told : List TracedWord) → told ≡ traced_words_of (declared_kinds types ty) → (i : ℕ) → i < length told
     → (offset : ℕ) → Contains (take i told) (PairAt offset) → Contains (get_or told i (StrongAt 0) ∷ []) (PairAt offset) → ⊥
 told_apart types ty told is i low offset early here =
     let offsets : List ℕ = traced_offsets 2 (kinds_of_type (kind_lists types) ty) in
@@ -50,16 +50,16 @@ told_apart types ty told is i low offset early here =
 
 -- u is the view at first, and v has the same objects, of the same types
 module _ (u v : SeatView) (bodies : v.bodies ≡ u.bodies) (types : v.types ≡ u.types) (place ty : ℕ) (has : HasType u.bodies place ty)
-    (told : List TracedWord) (is : told ≡ traced_words_of (kinds_in u.types ty)) where
+    (told : List TracedWord) (is : told ≡ traced_words_of (declared_kinds u.types ty)) where
   at_word : (word : TracedWord) → Contains told word → v.hand ≡ Some (record { place = place; ty = ty; next = offset_in word; part = Read }) → IsAtWord v place word
   at_word (StrongAt offset) there hand =
       at_strong_field u v bodies types place ty has offset
-      (subst (λ l. Contains l offset) (sym (strong_told (kinds_in u.types ty)))
-      (strong_there (traced_words_of (kinds_in u.types ty)) offset (subst (λ l. Contains l (StrongAt offset)) is there))) hand
+      (subst (λ l. Contains l offset) (sym (strong_told (declared_kinds u.types ty)))
+      (strong_there (traced_words_of (declared_kinds u.types ty)) offset (subst (λ l. Contains l (StrongAt offset)) is there))) hand
   at_word (PairAt offset) there hand =
       at_pair_field u v bodies types place ty has offset
-      (subst (λ l. Contains l offset) (sym (pairs_told (kinds_in u.types ty)))
-      (pair_there (traced_words_of (kinds_in u.types ty)) offset (subst (λ l. Contains l (PairAt offset)) is there))) hand
+      (subst (λ l. Contains l offset) (sym (pairs_told (declared_kinds u.types ty)))
+      (pair_there (traced_words_of (declared_kinds u.types ty)) offset (subst (λ l. Contains l (PairAt offset)) is there))) hand
 
   pub at_each_word : (i : ℕ) → i < length told → v.hand ≡ hand_over place ty (drop i (traced_in u.types ty)) → IsAtWord v place (get_or told i (StrongAt 0))
   at_each_word i low hand =
@@ -83,22 +83,22 @@ word_stays types v w m n place old new (PairAt offset) marks grow done = λ fine
 -- ---- all words are done
 
 module _ (u w : SeatView) (place ty : ℕ) (told : List TracedWord) (notes : NotesState) (view : IsView u) (has : HasType u.bodies place ty)
-    (is : told ≡ traced_words_of (kinds_in u.types ty)) (bodies : w.bodies ≡ u.bodies)
+    (is : told ≡ traced_words_of (declared_kinds u.types ty)) (bodies : w.bodies ≡ u.bodies)
     (done : (word : TracedWord) → Contains told word → IsWordTraced u.types w place notes word) where
   pub strong_done : HasStrongMarked u.types w place
   strong_done =
-      all_named u w place ty (offsets_of_kind Strong (kinds_in u.types ty)) view has refl bodies
+      all_named u w place ty (offsets_of_kind Strong (declared_kinds u.types ty)) view has refl bodies
       (λ offset there. done (StrongAt offset)
       (subst (λ l. Contains l (StrongAt offset)) (sym is)
-      (strong_back (traced_words_of (kinds_in u.types ty)) offset (subst (λ l. Contains l offset) (strong_told (kinds_in u.types ty)) there))))
+      (strong_back (traced_words_of (declared_kinds u.types ty)) offset (subst (λ l. Contains l offset) (strong_told (declared_kinds u.types ty)) there))))
 
   pub pairs_done : notes.overflow ≡ false → HasPairsNoted u.types w place (Contains notes.notes)
   pairs_done fine offset b k x there at pair key value =
       let first : Contains u.bodies b = subst (λ bs. Contains bs b) bodies there in
       let one : b ≡ has.0 = same_body u b has.0 view first has.1 (at ∙ sym has.2) in
-      let among : Contains (offsets_of_kind Pair (kinds_in u.types ty)) offset =
-      subst (λ l. Contains l offset) (ap (λ (c : Body). pair_offsets u.types c) one ∙ ap (λ t. offsets_of_kind Pair (kinds_in u.types t)) has.3) pair in
+      let among : Contains (offsets_of_kind Pair (declared_kinds u.types ty)) offset =
+      subst (λ l. Contains l offset) (ap (λ (c : Body). pair_offsets u.types c) one ∙ ap (λ t. offsets_of_kind Pair (declared_kinds u.types t)) has.3) pair in
       done (PairAt offset)
       (subst (λ l. Contains l (PairAt offset)) (sym is)
-      (pair_back (traced_words_of (kinds_in u.types ty)) offset (subst (λ l. Contains l offset) (pairs_told (kinds_in u.types ty)) among))) fine b k x there at pair
+      (pair_back (traced_words_of (declared_kinds u.types ty)) offset (subst (λ l. Contains l offset) (pairs_told (declared_kinds u.types ty)) among))) fine b k x there at pair
       key value

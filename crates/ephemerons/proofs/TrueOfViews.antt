@@ -5,7 +5,7 @@ use Rattle.std.proofs.lemmas.Bool.{or_cases, eqb-true, cases_eq}
 use Rattle.gc_graph.specs.declared.kind.Kind.TheVariants.{Strong, Pair}
 use Rattle.gc_graph.specs.Fields.{field_words}
 use Rattle.gc_graph.specs.State.{ObjectType}
-use Rattle.type_table.specs.Types.{kinds_of as kinds_in}
+use Rattle.type_table.specs.Types.{declared_kinds}
 use Rattle.marker_core.specs.declared.states.Body.{Body}
 use Rattle.marker_core.specs.declared.states.Role.TheVariants.{ValueWord}
 use Rattle.marker_core.specs.Bodies.{IsReference, holds, names_body, is_place, refers, role_in, kinds_of_type, field_word_count, word_in}
@@ -37,16 +37,16 @@ module _ (v : SeatView) (view : IsView v) (on : v.on ≡ true) where
 
   value_refers : (b : Body) (offset : ℕ) → Contains v.bodies b → Contains (pair_offsets v.types b) offset → IsReference v.bodies (word_at b (offset + 1))
   value_refers b offset there pair =
-      let field = field_at_offset Pair (kinds_in v.types b.ty) offset pair in
+      let field = field_at_offset Pair (declared_kinds v.types b.ty) offset pair in
       let next : offset + 1 - 2 ≡ offset - 2 + 1 = omega (arith, field.2) in
       let role : role_in (kind_lists v.types) b (offset - 2 + 1) ≡ ValueWord =
       value_after_key (kinds_of_type (kind_lists v.types) b.ty) (offset - 2) (role_of_offset v.types b Pair offset pair) in
       subst (λ i. IsReference v.bodies (word_in b i)) (sym next) (word_refers b (offset - 2 + 1) there (ap refers role))
 
-  fields_there : (b : Body) → Contains v.bodies b → field_words (kinds_in v.types b.ty) ≤ length b.fields
+  fields_there : (b : Body) → Contains v.bodies b → field_words (declared_kinds v.types b.ty) ≤ length b.fields
   fields_there b there =
       let whole = whole_body v view b there in
-      omega (arith, whole.room, whole.fields, word_count_is (kinds_in v.types b.ty), ap field_word_count (kinds_fit v.types b.ty))
+      omega (arith, whole.room, whole.fields, word_count_is (declared_kinds v.types b.ty), ap field_word_count (kinds_fit v.types b.ty))
 
   pub are_references : (types : List ObjectType) → v.types ≡ types → AreReferences types v.bodies
   are_references types known = subst (λ ts. AreReferences ts v.bodies) known (record {

@@ -4,7 +4,7 @@ use Rattle.std.proofs.Common.{◌≡◌, ℕ, zero, suc, ◌+◌, ◌-◌, true,
 use Rattle.std.specs.List.{Contains}
 use Rattle.gc_graph.specs.State.{ObjectType}
 use Rattle.gc_graph.specs.declared.kind.Kind.TheVariants.{Pair}
-use Rattle.type_table.specs.Types.{kinds_of as kinds_in}
+use Rattle.type_table.specs.Types.{declared_kinds}
 use Rattle.mark_worklist.specs.declared.marking.Marking.{Marking}
 use Rattle.marker_core.specs.Bodies.{holds, word_in}
 use Rattle.page_words.specs.Seat.{SeatView, IsAlone, IsView}
@@ -20,7 +20,7 @@ module _ (v : SeatView) (m : Marking) (x : NotesState) (view : IsView v) (h : Is
   -- the pairs of traced objects
   pairs_noted : x.overflow ≡ false → (p : ℕ) → holds v.traced p ≡ true → HasPairsNoted v.types v p (IsNotedIn (x ∷ []))
   pairs_noted fine p traced offset b k q there at pair key value =
-      let field = field_at_offset Pair (kinds_in v.types b.ty) offset pair in
+      let field = field_at_offset Pair (declared_kinds v.types b.ty) offset pair in
       let next : offset + 1 - 2 ≡ offset - 2 + 1 = omega (arith, field.2) in
       let back : offset - 2 + 2 ≡ offset = omega (arith, field.2) in
       let at_value : word_in b (offset - 2 + 1) ≡ q + 1 = ap (word_in b) (sym next) ∙ value in

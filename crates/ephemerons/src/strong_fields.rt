@@ -2,7 +2,7 @@
 
 ghost use Rattle.std.specs.Prelude.{◌≡◌, ◌⊎◌, ℕ, ◌+◌, true, None, Contains, length, drop};
 ghost use Rattle.gc_graph.specs.declared.kind.Kind.TheVariants.{Strong};
-ghost use Rattle.type_table.specs.Types.{kinds_of, offsets_of_kind};
+ghost use Rattle.type_table.specs.Types.{declared_kinds, offsets_of_kind};
 ghost use Rattle.mark_worklist.specs.declared.marking.Marking.{Marking};
 ghost use Rattle.object_headers.specs.Offsets.{reference_to};
 ghost use Rattle.marker_core.specs.Bodies.{holds};
@@ -73,7 +73,7 @@ fn trace_words<B: Bodywords>(
     requires tracing { IsTracing seat.old }
     requires body { HasType seat.old.bodies place ty }
     requires strong { (offset : ℕ) → Contains offsets.now offset
-        → Contains (offsets_of_kind Strong (kinds_of seat.old.types ty)) offset }
+        → Contains (offsets_of_kind Strong (declared_kinds seat.old.types ty)) offset }
     requires first { BeginsWith (traced_in seat.old.types ty) offsets.now }
     requires marked { holds seat.old.marked place ≡ true }
     requires hand { seat.old.hand ≡ hand_over place ty (traced_in seat.old.types ty) }

@@ -4,7 +4,7 @@
 ghost use Rattle.std.specs.Prelude.{◌≡◌, ℕ, true, false, Contains, Some, None, IfSome, IfNone};
 ghost use Rattle.std.specs.Prelude.{[], ◌∷◌};
 ghost use Rattle.std.specs.Option.{is_some};
-ghost use Rattle.type_table.specs.Types.{kinds_of};
+ghost use Rattle.type_table.specs.Types.{declared_kinds};
 ghost use Rattle.type_table.specs.TracedWords.{traced_words_of};
 ghost use Rattle.marker_core.specs.Bodies.{IsPlace, holds};
 ghost use Rattle.page_words.specs.Seat.{IsAlone, is_grey_at};
@@ -53,7 +53,7 @@ pub fn trace<B: Bodywords>(
         → HasPairsNoted types.now seat.new place (Contains notes.new.notes) }
     ensures told { (ty : ℕ) → HasType seat.old.bodies place ty
         → Traces seat.old notes.old seat.new notes.new place
-        (traced_words_of (kinds_of types.now ty)) }
+        (traced_words_of (declared_kinds types.now ty)) }
     ensures hand { seat.new.hand ≡ None }
     ensures looked { LooksWithin types.now seat.old seat.new }
 {
@@ -86,7 +86,7 @@ pub(crate) fn trace_fields<B: Bodywords>(
     ensures pairs { notes.new.overflow ≡ false
         → HasPairsNoted types.now seat.new place (Contains notes.new.notes) }
     ensures told { Traces seat.old notes.old seat.new notes.new place
-        (traced_words_of (kinds_of types.now ty)) }
+        (traced_words_of (declared_kinds types.now ty)) }
     ensures hand { seat.new.hand ≡ None }
     ensures looked { LooksWithin types.now seat.old seat.new }
 {

@@ -8,7 +8,7 @@ ghost use Rattle.gc_graph.specs.Outcomes.{answered};
 ghost use Rattle.gc_graph.specs.CycleSteps.{StepGcStart, StepGcStep, StepGcFinish, StepGcNow};
 ghost use Rattle.gc_graph.specs.CycleSteps.{is_marking, is_stack_refused};
 ghost use Rattle.page_space.specs.Pages.{word_count};
-ghost use Rattle.callback_table.specs.Table.{kinds_of};
+ghost use Rattle.callback_table.specs.Table.{callback_kinds};
 ghost use Rattle.heap_cycle.specs.Cycles.{HasPaused, AreSlotsMarked, HasFoundAll, pause_line};
 ghost use Rattle.heap_roots.specs.Crews.{KeepsTaken};
 ghost use Rattle.heap_cycle.specs.Parts.{setup_of, state_of, counted, IsReady, IsFrame};
@@ -105,7 +105,7 @@ pub fn finish<R: Threads>(
 ) -> Line
     requires ready { IsReady parts.old }
     requires shared { HasShared parts.old shared.old }
-    requires kinds { kinds_of callbacks.now ≡ parts.old.objects.callbacks }
+    requires kinds { callback_kinds callbacks.now ≡ parts.old.objects.callbacks }
     requires numbers { outcome.old.numbers ≡ [] }
     requires calm { outcome.old.prefinalises ≡ false }
     ensures step { StepGcFinish (setup_of parts.old) want (state_of parts.old)
@@ -147,7 +147,7 @@ pub fn collect<R: Threads>(
 ) -> Line
     requires ready { IsReady parts.old }
     requires shared { HasShared parts.old shared.old }
-    requires kinds { kinds_of callbacks.now ≡ parts.old.objects.callbacks }
+    requires kinds { callback_kinds callbacks.now ≡ parts.old.objects.callbacks }
     requires numbers { outcome.old.numbers ≡ [] }
     requires calm { outcome.old.prefinalises ≡ false }
     requires room { word_count parts.old.objects.shape ≤ 2 * outcome.old.room }
@@ -188,7 +188,7 @@ fn pause<R: Threads>(
     requires shared { HasRegion parts.old region.old }
     requires marking { parts.old.cycle.phase ≡ Marking }
     requires allowed { is_stack_refused want parts.old.handles.stack.words ≡ false }
-    requires kinds { kinds_of callbacks.now ≡ parts.old.objects.callbacks }
+    requires kinds { callback_kinds callbacks.now ≡ parts.old.objects.callbacks }
     ensures paused { (markers : ℕ) → (markers ≡ 0 → parts.old.objects.grey.running ≡ [])
         → HasPaused markers want parts.old region.old parts.new region.new result }
 {

@@ -17,7 +17,7 @@ use Rattle.gc_graph.specs.ObjectSteps.{StepGet, StepWord, IsChanged, IsNumber, I
 use Rattle.heap_cycle.specs.Field.{Field}
 use Rattle.heap_cycle.specs.Wanted.{Wanted}
 use Rattle.heap_cycle.specs.Nodes.{place_of, word_of}
-use Rattle.heap_cycle.specs.Fields.{allows, field_of, IsFieldOf, IsFieldAt, value_in, IsLiveReference}
+use Rattle.heap_cycle.specs.Fields.{allows, field_of, IsFieldOf, FindsField, value_in, IsLiveReference}
 use Rattle.heap_engine.specs.FieldSteps.{StepWrite, HasRead}
 use Rattle.heap_engine.proofs.SlotReads.{live_names, slot_read}
 use Rattle.heap_cycle.specs.Objects.{target_in, written_in, ObjectsView}
@@ -42,7 +42,7 @@ same field other e = cc
 
 -- a field of a live node
 found_at : (allowed : Kind → Bool) (s : Parts) (p f n : ℕ) (field : Field) → IsReady s → get_or s.handles.slots p None ≡ Some n
-    → IsFieldAt allowed s.objects.nodes n f (Ok field) → Found allowed s p f field
+    → FindsField allowed s.objects.nodes n f (Ok field) → Found allowed s p f field
 found_at allowed s p f n field ready slot told =
     let node : Node = node_at s.objects.nodes n in
     let kind : Kind = kind_of_field node.object f in
@@ -66,12 +66,12 @@ found_at allowed s p f n field ready slot told =
     ]
 
 found_in : (allowed : Kind → Bool) (s : Parts) (p f : ℕ) (field : Field) (slot : Option ℕ) → IsReady s → get_or s.handles.slots p None ≡ slot
-    → (let answer : Result Field Refusal = Ok field in MatchOption slot (answer ≡ Err R.Null) (λ n. IsFieldAt allowed s.objects.nodes n f answer)) → Found allowed s p f field
+    → (let answer : Result Field Refusal = Ok field in MatchOption slot (answer ≡ Err R.Null) (λ n. FindsField allowed s.objects.nodes n f answer)) → Found allowed s p f field
 found_in allowed s p f field None ready slot told = cc
 found_in allowed s p f field (Some n) ready slot told = found_at allowed s p f n field ready slot told
 
 pub found : (allowed : Kind → Bool) (s : Parts) (p f : ℕ) (field : Field) → IsReady s
-    → (let answer : Result Field Refusal = Ok field in MatchOption (get_or s.handles.slots p None) (answer ≡ Err R.Null) (λ n. IsFieldAt allowed s.objects.nodes n f answer))
+    → (let answer : Result Field Refusal = Ok field in MatchOption (get_or s.handles.slots p None) (answer ≡ Err R.Null) (λ n. FindsField allowed s.objects.nodes n f answer))
     → Found allowed s p f field
 found allowed s p f field ready told = found_in allowed s p f field (get_or s.handles.slots p None) ready refl told
 

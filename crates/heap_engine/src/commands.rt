@@ -4,7 +4,7 @@
 ghost use Rattle.std.specs.Prelude.{◌≡◌, length};
 ghost use Rattle.gc_graph.specs.Lawful.{IsAllowed};
 ghost use Rattle.gc_graph.specs.Sections.{IsInSection};
-ghost use Rattle.callback_table.specs.Table.{kinds_of};
+ghost use Rattle.callback_table.specs.Table.{callback_kinds};
 ghost use Rattle.heap_engine.specs.CarriedOut.{IsAsked, IsCommandDone};
 
 use crate::creating::new_object;
@@ -33,7 +33,7 @@ pub(crate) fn run<R: Threads, G: Gate + Send + Sync + 'static>(
     command: &Command,
 )
     requires asked { IsAsked parts.old shared.old outcome.old }
-    requires kinds { kinds_of callbacks.now ≡ parts.old.objects.callbacks }
+    requires kinds { callback_kinds callbacks.now ≡ parts.old.objects.callbacks }
     requires allowed { IsAllowed (length parts.old.objects.types) command.now }
     requires section { IsInSection parts.old.cycle.rest.awaiting command.now }
     ensures done { IsCommandDone command.now parts.old shared.old parts.new shared.new

@@ -3,7 +3,7 @@
 ghost use Rattle.std.specs.Prelude.{◌≡◌, ◌*◌, ◌≤◌};
 ghost use Rattle.gc_graph.specs.declared.command.Command.TheVariants as C;
 ghost use Rattle.page_space.specs.Pages.{word_count};
-ghost use Rattle.callback_table.specs.Table.{kinds_of};
+ghost use Rattle.callback_table.specs.Table.{callback_kinds};
 ghost use Rattle.heap_cycle.specs.Parts.{IsReady};
 ghost use Rattle.heap_engine.specs.CarriedOut.{IsAsked, IsCarriedOut, IsDoneAlone, TellsNothing};
 
@@ -53,7 +53,7 @@ pub fn finish<R: Threads>(
     want: Want,
 )
     requires asked { IsAsked parts.old shared.old outcome.old }
-    requires kinds { kinds_of callbacks.now ≡ parts.old.objects.callbacks }
+    requires kinds { callback_kinds callbacks.now ≡ parts.old.objects.callbacks }
     ensures done { IsCarriedOut (C.GcFinish want) parts.old shared.old parts.new shared.new
         outcome.old outcome.new }
 {
@@ -74,7 +74,7 @@ pub fn collect<R: Threads>(
     want: Want,
 )
     requires asked { IsAsked parts.old shared.old outcome.old }
-    requires kinds { kinds_of callbacks.now ≡ parts.old.objects.callbacks }
+    requires kinds { callback_kinds callbacks.now ≡ parts.old.objects.callbacks }
     ensures done { IsCarriedOut (C.GcNow want) parts.old shared.old parts.new shared.new
         outcome.old outcome.new }
 {

@@ -9,7 +9,7 @@ ghost use Rattle.gc_graph.specs.Fields.{is_weak};
 ghost use Rattle.gc_graph.specs.Outcomes.{answered};
 ghost use Rattle.gc_graph.specs.ObjectSteps.{StepGet, StepWord};
 ghost use Rattle.heap_cycle.specs.Nodes.{place_of, word_of};
-ghost use Rattle.heap_cycle.specs.Fields.{allows, IsFieldAt, Suits};
+ghost use Rattle.heap_cycle.specs.Fields.{allows, FindsField, Suits};
 ghost use Rattle.heap_cycle.specs.Objects.{IsLiveAt};
 ghost use Rattle.heap_engine.specs.CarriedOut.{IsDoneAlone, TellsNothing};
 ghost use Rattle.heap_engine.specs.FieldSteps.{StepWrite, IsKeptIn, HasRead};
@@ -149,7 +149,7 @@ pub(crate) fn field_of(parts: &mut Parts, p: u32, f: u32, wanted: Wanted) -> Res
     requires ready { IsReady parts.old }
     requires slot { p < 256 }
     ensures field { MatchOption (slice_index_or parts.old.handles.slots p None)
-        (result ≡ Err R.Null) (λ n. IsFieldAt (allows wanted) parts.old.objects.nodes n f result) }
+        (result ≡ Err R.Null) (λ n. FindsField (allows wanted) parts.old.objects.nodes n f result) }
     ensures same { parts.new ≡ parts.old }
 {
     match parts.handles.place(p) {

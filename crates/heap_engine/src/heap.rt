@@ -9,7 +9,7 @@ ghost use Rattle.gc_graph.specs.Outcomes.{finalise_lines};
 ghost use Rattle.gc_graph.specs.Sections.{IsInSection};
 ghost use Rattle.gc_graph.specs.Lawful.{IsAllowed, IsEndLine, summary_line};
 ghost use Rattle.gc_graph.specs.Shapes.{IsShape};
-ghost use Rattle.callback_table.specs.Table.{kinds_of};
+ghost use Rattle.callback_table.specs.Table.{callback_kinds};
 ghost use Rattle.heap_engine.specs.Acted.{IsActed};
 ghost use Rattle.heap_cycle.specs.Objects.{HaveCallbacks};
 ghost use Rattle.heap_engine.specs.View.{no_refusals, IsClosed};
@@ -49,7 +49,7 @@ pub struct Heap<'a, G> {
     callbacks: &'a CallbackTable,
     gate: Arc<G>,
     core: Core,
-    pub ghost kinds: { kinds_of callbacks.now ≡ core.setup.callbacks },
+    pub ghost kinds: { callback_kinds callbacks.now ≡ core.setup.callbacks },
 }
 
 impl<'a, G: Gate + Send + Sync + 'static> Heap<'a, G> {
@@ -65,12 +65,12 @@ impl<'a, G: Gate + Send + Sync + 'static> Heap<'a, G> {
     ) -> Result<Heap<'a, G>, NoMemory>
         requires shape { IsShape (record { pages = config.pages; page_words = config.page_words }) }
         requires few { config.markers ≤ 8 }
-        requires called { HaveCallbacks (length (kinds_of callbacks.now)) types }
+        requires called { HaveCallbacks (length (callback_kinds callbacks.now)) types }
         ensures setup { IfOk result (λ h. h.core.setup ≡ record {
           shape = record { pages = config.pages; page_words = config.page_words };
           markers = config.markers;
           types = types;
-          callbacks = kinds_of callbacks.now;
+          callbacks = callback_kinds callbacks.now;
         }) }
         ensures state { IfOk result (λ h. h.core.state ≡ empty_state) }
         ensures history { IfOk result (λ h. h.core.history ≡ []) }

@@ -10,7 +10,7 @@ ghost use Rattle.gc_graph.specs.Sections.{IsInSection};
 ghost use Rattle.gc_graph.specs.Outcomes.{finalise_lines};
 ghost use Rattle.gc_graph.specs.Lawful.{IsAllowed, IsEndLine, summary_line};
 ghost use Rattle.gc_graph.specs.Shapes.{IsShape};
-ghost use Rattle.callback_table.specs.Table.{kinds_of};
+ghost use Rattle.callback_table.specs.Table.{callback_kinds};
 ghost use Rattle.heap_engine.specs.Acted.{IsActed};
 ghost use Rattle.heap_cycle.specs.Objects.{HaveCallbacks};
 ghost use Rattle.heap_engine.specs.View.{no_refusals, IsClosed};
@@ -65,12 +65,12 @@ impl Core {
     ) -> Result<Core, NoMemory>
         requires shape { IsShape (record { pages = config.pages; page_words = config.page_words }) }
         requires few { config.markers ≤ 8 }
-        requires called { HaveCallbacks (length (kinds_of callbacks.now)) types }
+        requires called { HaveCallbacks (length (callback_kinds callbacks.now)) types }
         ensures setup { IfOk result (λ h. h.setup ≡ record {
           shape = record { pages = config.pages; page_words = config.page_words };
           markers = config.markers;
           types = types;
-          callbacks = kinds_of callbacks.now;
+          callbacks = callback_kinds callbacks.now;
         }) }
         ensures state { IfOk result (λ h. h.state ≡ empty_state) }
         ensures history { IfOk result (λ h. h.history ≡ []) }
@@ -122,7 +122,7 @@ impl Core {
         requires opened { self.old.closed ≡ false }
         requires allowed { IsAllowed (length self.old.setup.types) command.now }
         requires section { IsInSection self.old.state.awaiting command.now }
-        requires kinds { kinds_of callbacks.now ≡ self.old.setup.callbacks }
+        requires kinds { callback_kinds callbacks.now ≡ self.old.setup.callbacks }
         ensures acted { IsActed self.old self.new command.now result }
     {
         self.parts.objects.shape_is_valid();

@@ -5,7 +5,7 @@ use Rattle.std.specs.List.{Contains, sum_by}
 use Rattle.std.proofs.lemmas.List.{get_or_default, get_or-set_same}
 use Rattle.gc_graph.specs.State.{ObjectType}
 use Rattle.gc_graph.specs.declared.kind.Kind.TheVariants.{Pair}
-use Rattle.type_table.specs.Types.{kinds_of as kinds_in}
+use Rattle.type_table.specs.Types.{declared_kinds}
 use Rattle.mark_worklist.specs.Refusals.{TellsRefused, refusals_of}
 use Rattle.mark_worklist.specs.declared.marking.Marking.{Marking}
 use Rattle.marker_core.specs.declared.states.Body.{Body}
@@ -45,7 +45,7 @@ grey_stepped grey m x some =
 
 -- the offset of a pair is none of the header's
 pair_behind : (types : List ObjectType) (bodies : List Body) (p offset : ℕ) → HasPair types bodies p offset → offset ≡ 0 → ⊥
-pair_behind types bodies p offset (b, there, at, pair) none = (let field = field_at_offset Pair (kinds_in types b.ty) offset pair in omega (arith, field.2, none))
+pair_behind types bodies p offset (b, there, at, pair) none = (let field = field_at_offset Pair (declared_kinds types b.ty) offset pair in omega (arith, field.2, none))
 
 empty_of : (shares : List ShareState) → length shares ≡ 0 → shares ≡ []
 empty_of [] none = refl

@@ -10,7 +10,7 @@ use Rattle.std.proofs.lemmas.List.Sums.{sum_by-cons, sum_by-append}
 use Rattle.gc_graph.specs.Members.{holds_from, in_from_holds}
 use Rattle.gc_graph.specs.State.{ObjectType}
 use Rattle.gc_graph.specs.declared.kind.Kind.TheVariants.{Pair}
-use Rattle.type_table.specs.Types.{kinds_of as kinds_in}
+use Rattle.type_table.specs.Types.{declared_kinds}
 use Rattle.mark_worklist.specs.Lists.{last_count}
 use Rattle.mark_worklist.specs.Refusals.{TellsRefused}
 use Rattle.mark_worklist.specs.Told.{told_same, told_then}
@@ -363,7 +363,7 @@ module _ (v : SeatView) (g : GreyView) (ends : List Ending) (w : SeatView) (n : 
 
     pairs : (p : ℕ) → holds w.traced p ≡ true → HasPairsNoted w.types w p (IsNotedIn groups)
     pairs p traced offset b key q there at_place pair first second =
-        let field = field_at_offset Pair (kinds_in w.types b.ty) offset pair in
+        let field = field_at_offset Pair (declared_kinds w.types b.ty) offset pair in
         let next : offset + 1 - 2 ≡ offset - 2 + 1 = omega (arith, field.2) in
         let back : offset - 2 + 2 ≡ offset = omega (arith, field.2) in
         let at_value : word_in b (offset - 2 + 1) ≡ q + 1 = ap (word_in b) (sym next) ∙ second in

@@ -7,7 +7,7 @@ use Rattle.std.proofs.lemmas.List.{get_or-set_same, length-set}
 use Rattle.std.proofs.lemmas.List.Elements.{All-weaker, Contains-append_cases, Contains-append_left, Contains-append_right}
 use Rattle.gc_graph.specs.Members.{holds_from, in_from_holds}
 use Rattle.gc_graph.specs.declared.kind.Kind.TheVariants.{Pair}
-use Rattle.type_table.specs.Types.{kinds_of as kinds_in, offsets_of_kind}
+use Rattle.type_table.specs.Types.{declared_kinds, offsets_of_kind}
 use Rattle.mark_worklist.specs.Lists.{ListState, as_own, last_count}
 use Rattle.mark_worklist.specs.Refusals.{TellsRefused}
 use Rattle.mark_worklist.specs.declared.marking.Marking.{Marking}
@@ -47,7 +47,7 @@ module _ (w : SeatView) (view : IsView w) (on : w.on ≡ true) (p offset : ℕ) 
   pub noted_pair : HasPair w.types w.bodies p offset
   noted_pair =
       let at : offset - 2 + 2 ≡ offset = omega (arith, pair.past_serial) in
-      (pair.body, pair.there, pair.place, subst (Contains (offsets_of_kind Pair (kinds_in w.types pair.body.ty))) at (offset_told w.types pair.body (offset - 2) Pair refl pair.key))
+      (pair.body, pair.there, pair.place, subst (Contains (offsets_of_kind Pair (declared_kinds w.types pair.body.ty))) at (offset_told w.types pair.body (offset - 2) Pair refl pair.key))
 
   pub noted_behind : offset ≡ 0 → ⊥
   noted_behind none = omega (arith, pair.past_serial, none)

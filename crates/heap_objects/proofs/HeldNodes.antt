@@ -9,7 +9,7 @@ use Rattle.gc_graph.specs.declared.kind.Value.{Value}
 use Rattle.gc_graph.specs.declared.kind.Value.TheVariants.{Null, Ref, Word}
 use Rattle.gc_graph.specs.State.{Setup, ObjectType, Node, type_at, node_at, is_there, is_dead, size_of}
 use Rattle.gc_graph.specs.Fields.{field_words, new_node, size_of_type}
-use Rattle.type_table.specs.Types.{kinds_of}
+use Rattle.type_table.specs.Types.{declared_kinds}
 use Rattle.marker_core.specs.Bodies.{kinds_of_type, holds, field_word_count}
 use Rattle.marker_core.specs.declared.states.Body.{Body}
 use Rattle.page_words.specs.Roles.{kind_lists, kinds_fit, word_count_is}
@@ -48,7 +48,7 @@ body_is_new setup f k t extra place =
 pub room_for_fields : (setup : Setup) (v : SeatView) (t extra : ℕ) → v.types ≡ setup.types → least_size v t ≤ size_of_type setup t extra
 room_for_fields setup v t extra same =
     let kinds : List Kind = kinds_of_type (kind_lists v.types) t in
-    let told : kinds ≡ (type_at setup t).kinds = kinds_fit v.types t ∙ ap (λ (types : List ObjectType). kinds_of types t) same in
+    let told : kinds ≡ (type_at setup t).kinds = kinds_fit v.types t ∙ ap (λ (types : List ObjectType). declared_kinds types t) same in
     let words : field_word_count kinds ≡ field_words (type_at setup t).kinds = word_count_is kinds ∙ ap field_words told in
     omega (arith, words)
 

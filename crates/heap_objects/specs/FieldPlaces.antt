@@ -22,7 +22,7 @@ use Rattle.page_space.specs.Space.{IsHeaderOf}
 use Rattle.member_fields.specs.Words.{HasWord}
 use Rattle.heap_objects.specs.declared.field.Field.{Field}
 use Rattle.atomic_pause.specs.Nodes.{place_of, body_of, bodies_of, AreOfValid}
-use Rattle.heap_objects.specs.Fields.{field_of, IsFieldOf, IsFieldAt}
+use Rattle.heap_objects.specs.Fields.{field_of, IsFieldOf, FindsField}
 use Rattle.heap_objects.specs.Objects.{IsLiveAt}
 use Rattle.atomic_pause.specs.NodePlaces.{live_is_there, node_body}
 use Rattle.type_table.specs.FieldLaw.{FieldsStandApart}
@@ -37,8 +37,8 @@ live_place nodes v n place held at = (body_of (place_of nodes) n (node_at nodes 
 -- what the head of a live node's body tells: its type, and how many words it has
 pub record IsHead (setup : Setup) (nodes : List Node) (n size ty : ℕ) : Type 0 where
   pub known : ty < length setup.types
-  pub kinds : (node_at nodes n).object.kinds ≡ table.kinds_of setup.types ty
-  pub size_is : size ≡ table.size_with (table.kinds_of setup.types ty) (node_at nodes n).object.extra
+  pub kinds : (node_at nodes n).object.kinds ≡ table.declared_kinds setup.types ty
+  pub size_is : size ≡ table.size_with (table.declared_kinds setup.types ty) (node_at nodes n).object.extra
 
 pub live_head : (setup : Setup) (nodes : List Node) (v : SeatView) (n place : ℕ) (header : Header) → AreOfValid setup nodes → v.bodies ≡ bodies_of nodes → IsLiveAt nodes n place
     → ((b : Body) → Contains v.bodies b → b.place ≡ place → IsHeaderOf v b header) → IsHead setup nodes n header.size header.ty
@@ -49,7 +49,7 @@ live_head setup nodes v n place header valid held at tells =
     let type : header.ty ≡ node.object.ty = is.ty in
     let known : AreKnown setup nodes = known_nodes setup nodes valid in
     let typed : IsTyped setup (length nodes) node = All-get_or (IsTyped setup (length nodes)) nodes n no_node (live_below nodes n at.0) known.typed in
-    let kinds : node.object.kinds ≡ table.kinds_of setup.types header.ty = typed.kinds_are ∙ ap (table.kinds_of setup.types) (sym type) in
+    let kinds : node.object.kinds ≡ table.declared_kinds setup.types header.ty = typed.kinds_are ∙ ap (table.declared_kinds setup.types) (sym type) in
     record {
       known = omega (arith, type, typed.ty);
       kinds = kinds;
@@ -57,7 +57,7 @@ live_head setup nodes v n place header valid held at tells =
     }
 
 -- how many extra words the object has
-pub extra_is : (setup : Setup) (nodes : List Node) (n size ty none extra : ℕ) → IsHead setup nodes n size ty → none ≡ table.size_with (table.kinds_of setup.types ty) 0
+pub extra_is : (setup : Setup) (nodes : List Node) (n size ty none extra : ℕ) → IsHead setup nodes n size ty → none ≡ table.size_with (table.declared_kinds setup.types ty) 0
     → extra ≡ size - none → extra ≡ (node_at nodes n).object.extra
 extra_is setup nodes n size ty none extra is least rest = omega (arith, is.size_is, least, rest)
 
@@ -68,7 +68,7 @@ pub record IsTold (node : Node) (f : ℕ) (kind : Kind) (offset : ℕ) : Type 0 
   pub offset_is : offset ≡ 2 + word_of_field node.object f
 
 field_told : (setup : Setup) (nodes : List Node) (n f size ty extra : ℕ) (found : Kind × ℕ) → IsHead setup nodes n size ty → extra ≡ (node_at nodes n).object.extra
-    → table.IsFieldAt (table.kinds_of setup.types ty) extra f found → IsTold (node_at nodes n) f found.0 found.1
+    → table.IsFieldAt (table.declared_kinds setup.types ty) extra f found → IsTold (node_at nodes n) f found.0 found.1
 field_told setup nodes n f size ty extra found is extras at = record {
   there = omega (arith, at.there, extras, ap length is.kinds);
   kind_is = at.kind ∙ ap (λ (ks : List Kind). get_or ks f Plain) (sym is.kinds);
@@ -78,8 +78,8 @@ field_told setup nodes n f size ty extra found is extras at = record {
 -- the answer that the table's answer leads to is the one of the definition
 pub field_answered : (setup : Setup) (nodes : List Node) (n place f size ty extra : ℕ) (allowed : Kind → Bool) (found : Option (Kind × ℕ)) (answer : Result Field Refusal) → IsHead setup nodes n size ty
     → extra ≡ (node_at nodes n).object.extra → place_of nodes n ≡ place
-    → MatchOption found (table.count_with (table.kinds_of setup.types ty) extra ≤ f) (table.IsFieldAt (table.kinds_of setup.types ty) extra f)
-    → MatchOption found (answer ≡ Err R.Field) (λ t. MatchBool (allowed t.0) (answer ≡ Ok (record { holder = place; kind = t.0; word = t.1 })) (answer ≡ Err R.Kind)) → IsFieldAt allowed nodes n f answer
+    → MatchOption found (table.count_with (table.declared_kinds setup.types ty) extra ≤ f) (table.IsFieldAt (table.declared_kinds setup.types ty) extra f)
+    → MatchOption found (answer ≡ Err R.Field) (λ t. MatchBool (allowed t.0) (answer ≡ Ok (record { holder = place; kind = t.0; word = t.1 })) (answer ≡ Err R.Kind)) → FindsField allowed nodes n f answer
 field_answered setup nodes n place f size ty extra allowed None answer is extras at past told =
     let node : Node = node_at nodes n in
     subst (λ b. MatchBool b (MatchBool (allowed (kind_of_field node.object f)) (answer ≡ Ok (field_of nodes n f)) (answer ≡ Err R.Kind)) (answer ≡ Err R.Field))
@@ -110,10 +110,10 @@ pub has_word : (setup : Setup) (nodes : List Node) (v : SeatView) (n f : ℕ) (f
     → v.bodies ≡ bodies_of nodes → v.types ≡ setup.types → IsFieldOf nodes n f field → is_so field.kind ≡ true → HasWord is_so v field.holder field.word
 has_word setup nodes v n f field is_so law valid held known is so =
     let node : Node = node_at nodes n in
-    let kinds : List Kind = table.kinds_of setup.types node.object.ty in
+    let kinds : List Kind = table.declared_kinds setup.types node.object.ty in
     let word : ℕ = 2 + word_of_field node.object f in
     let typed : IsTyped setup (length nodes) node = live_typed setup nodes n valid is.live in
-    let in_table : table.IsWordOf kinds f word = subst (λ ks. table.IsWordOf ks f word) typed.kinds_are (record {
+    let in_table : table.IsWordOfField kinds f word = subst (λ ks. table.IsWordOfField ks f word) typed.kinds_are (record {
       first = omega arith;
       last = omega (arith, some_words (kind_of_field node.object f));
     }) in

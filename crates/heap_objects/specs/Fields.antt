@@ -42,8 +42,8 @@ pub record IsFieldOf (nodes : List Node) (n f : ℕ) (field : Field) : Type 0 wh
   pub is : field ≡ field_of nodes n f
 
 -- the node's field f, or why it has none of a kind that passes the test
-abbrev pub IsFieldAt : (Kind → Bool) → List Node → ℕ → ℕ → Result Field Refusal → Type 0
-IsFieldAt allowed nodes n f answer =
+abbrev pub FindsField : (Kind → Bool) → List Node → ℕ → ℕ → Result Field Refusal → Type 0
+FindsField allowed nodes n f answer =
     MatchBool (nat_lt f (field_count (node_at nodes n)))
     (MatchBool (allowed (kind_of_field (node_at nodes n).object f)) (answer ≡ Ok (field_of nodes n f)) (answer ≡ Err R.Kind))
     (answer ≡ Err R.Field)

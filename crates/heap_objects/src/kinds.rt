@@ -1,7 +1,7 @@
 // The kinds of a program's callbacks. All of it is for contracts alone.
 
 ghost use Rattle.std.specs.Prelude.{◌≡◌};
-ghost use Rattle.callback_table.specs.Table.{kinds_of};
+ghost use Rattle.callback_table.specs.Table.{callback_kinds};
 
 use callback_table::CallbackTable;
 use ghost_values::GhostValue;
@@ -24,7 +24,7 @@ impl Model for Kinds {
 
 /// The kinds of these callbacks.
 pub fn of(callbacks: &CallbackTable) -> GhostValue<Kinds>
-    ensures { result.value ≡ kinds_of callbacks.now }
+    ensures { result.value ≡ callback_kinds callbacks.now }
 {
     GhostValue::chosen(callbacks)
 }

@@ -9,7 +9,7 @@ ghost use Rattle.gc_graph.specs.Fields.{is_reference, is_plain};
 ghost use Rattle.gc_graph.specs.May.{may_with_read};
 ghost use Rattle.gc_graph.specs.State.{graph_of};
 ghost use Rattle.member_fields.specs.Barrier.{MayKeep, MayKeepNamed};
-ghost use Rattle.heap_objects.specs.Fields.{allows, IsFieldAt, IsFieldOf, value_in, TakesValue};
+ghost use Rattle.heap_objects.specs.Fields.{allows, FindsField, IsFieldOf, value_in, TakesValue};
 ghost use Rattle.heap_objects.specs.Objects.{IsLiveAt};
 ghost use Rattle.atomic_pause.specs.Nodes.{AreOfValid, word_of, place_of};
 ghost use Rattle.heap_objects.specs.Objects.{IsReferenceTo, target_in, written_in};
@@ -34,7 +34,7 @@ impl Objects {
         requires valid { AreOfValid (setup_of_objects self.old) self.old.nodes }
         requires place { (n : ℕ) × IsLiveAt self.old.nodes n place }
         ensures field { (n : ℕ) → IsLiveAt self.old.nodes n place
-            → IsFieldAt (allows wanted) self.old.nodes n f result }
+            → FindsField (allows wanted) self.old.nodes n f result }
         ensures same { self.new ≡ self.old }
     {
         self.seat.bodies_lie_apart();

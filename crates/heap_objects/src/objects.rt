@@ -7,7 +7,7 @@ ghost use Rattle.gc_graph.specs.Placement.{IsUsedPages, extents_of};
 ghost use Rattle.page_words.specs.Seat.{empty_view};
 ghost use Rattle.gc_graph.specs.Shapes.{IsShape};
 ghost use Rattle.page_space.specs.Pages.{word_count};
-ghost use Rattle.callback_table.specs.Table.{kinds_of};
+ghost use Rattle.callback_table.specs.Table.{callback_kinds};
 ghost use Rattle.heap_objects.specs.Objects.{HaveCallbacks, IsLiveAt};
 ghost use Rattle.heap_objects.specs.Objects.{setup_of_objects};
 ghost use Rattle.heap_objects.specs.Marking.{no_grey};
@@ -75,12 +75,12 @@ impl Objects {
     ) -> Result<Objects, NoMemory>
         requires few_markers { markers ≤ 8 }
         requires shape { IsShape (record { pages = pages; page_words = page_words }) }
-        requires called { HaveCallbacks (length (kinds_of callbacks.now)) types }
+        requires called { HaveCallbacks (length (callback_kinds callbacks.now)) types }
         requires few { length types < 16384 }
         ensures view { IfOk result (λ o. o ≡ record {
           shape = record { pages = pages; page_words = page_words };
           types = types;
-          callbacks = kinds_of callbacks.now;
+          callbacks = callback_kinds callbacks.now;
           nodes = [];
           seat = empty_view o.seat.heap types;
           grey = no_grey markers;

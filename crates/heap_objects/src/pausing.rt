@@ -8,7 +8,7 @@ ghost use Rattle.gc_graph.specs.State.{node_at, size_of, graph_of, IsLive, slot_
 ghost use Rattle.gc_graph.specs.Pause.{live_count, dead_count, is_dead_at, clear_slot};
 ghost use Rattle.gc_graph.specs.Valid.{AreLive};
 ghost use Rattle.callback_table.specs.Registry.{IsRegistered};
-ghost use Rattle.callback_table.specs.Table.{kinds_of};
+ghost use Rattle.callback_table.specs.Table.{callback_kinds};
 ghost use Rattle.marker_core.specs.Bodies.{holds};
 ghost use Rattle.marker_core.specs.Laws.{IsLeastOver};
 ghost use Rattle.page_words.specs.Roles.{kind_lists};
@@ -137,7 +137,7 @@ impl Objects {
         requires valid { AreOfValid (setup_of_objects self.old) self.old.nodes }
         requires marks { (may : List Bool) × HasMarking may self.old }
         requires few { length self.old.nodes ≤ 1000000 }
-        requires kinds { kinds_of callbacks.now ≡ self.old.callbacks }
+        requires kinds { callback_kinds callbacks.now ≡ self.old.callbacks }
         requires slots { (slots : List (Option ℕ)) × NamePlaces self.old.nodes slots strong.now }
         requires kept { (p : ℕ) → Contains strong.now (Some p)
             → holds self.old.seat.may p ≡ true }

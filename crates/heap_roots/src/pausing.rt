@@ -11,7 +11,7 @@ ghost use Rattle.gc_graph.specs.Valid.{AreLive};
 ghost use Rattle.cross_thread_region.specs.Histories.{slots_of, strong_place};
 ghost use Rattle.cross_thread_region.specs.Histories.{strong_told, is_started};
 ghost use Rattle.callback_table.specs.Registry.{IsRegistered};
-ghost use Rattle.callback_table.specs.Table.{kinds_of};
+ghost use Rattle.callback_table.specs.Table.{callback_kinds};
 ghost use Rattle.marker_core.specs.Bodies.{holds};
 ghost use Rattle.page_words.specs.Seat.{IsQuiet};
 ghost use Rattle.heap_objects.specs.Nodes.{AreOfValid};
@@ -79,7 +79,7 @@ impl Handles {
         requires valid { AreOfValid (setup_of_objects objects.old) objects.old.nodes }
         requires marks { (may : List Bool) × HasMarking may objects.old }
         requires few { length objects.old.nodes ≤ 1000000 }
-        requires kinds { kinds_of callbacks.now ≡ objects.old.callbacks }
+        requires kinds { callback_kinds callbacks.now ≡ objects.old.callbacks }
         requires slots { self.old.places ≡ places_of objects.old.nodes self.old.slots }
         requires weak { self.old.weak_places ≡ places_of objects.old.nodes self.old.weak }
         requires live { AreLive objects.old.nodes (slot_targets self.old.slots) }

@@ -7,7 +7,7 @@ use Rattle.gc_graph.specs.declared.kind.Kind.TheVariants.{Strong, Pair}
 use Rattle.gc_graph.specs.State.{ObjectType}
 use Rattle.type_table.specs.declared.traced.TracedWord.{TracedWord}
 use Rattle.type_table.specs.declared.traced.TracedWord.TheVariants.{StrongAt, PairAt}
-use Rattle.type_table.specs.Types.{kinds_of as kinds_in}
+use Rattle.type_table.specs.Types.{declared_kinds}
 use Rattle.type_table.specs.TracedWords.{traced_words_of, offset_in}
 use Rattle.type_table.specs.TracedLaws.{strong_told, pairs_told, strong_there, pair_there}
 use Rattle.marker_core.specs.declared.states.Body.{Body}
@@ -25,7 +25,7 @@ use Rattle.marker_crew.specs.Hands.{IsAtWord, moved_on}
 abbrev of_type : ℕ → Body
 of_type ty = record { place = 0; ty = ty; size = 0; serial = 0; fields = [] }
 
-module _ (types : List ObjectType) (v : MarkerSeatView) (same : v.types ≡ types) (place ty : ℕ) (told : List TracedWord) (is : told ≡ traced_words_of (kinds_in types ty)) where
+module _ (types : List ObjectType) (v : MarkerSeatView) (same : v.types ≡ types) (place ty : ℕ) (told : List TracedWord) (is : told ≡ traced_words_of (declared_kinds types ty)) where
   at_word : (word : TracedWord) → Contains told word → v.hand ≡ Some (record { place = place; ty = ty; next = offset_in word; part = Read }) → IsAtWord v place word
   at_word (StrongAt offset) there hand = record {
     ty = ty;
@@ -33,8 +33,8 @@ module _ (types : List ObjectType) (v : MarkerSeatView) (same : v.types ≡ type
     role_is =
         subst (λ (ts : List ObjectType). role_at_hand (kind_lists ts) (record { place = place; ty = ty; next = offset; part = Read }) ≡ StrongWord) (sym same)
         (role_of_offset types (of_type ty) Strong offset
-        (subst (λ l. Contains l offset) (sym (strong_told (kinds_in types ty)))
-        (strong_there (traced_words_of (kinds_in types ty)) offset (subst (λ l. Contains l (StrongAt offset)) is there))));
+        (subst (λ l. Contains l offset) (sym (strong_told (declared_kinds types ty)))
+        (strong_there (traced_words_of (declared_kinds types ty)) offset (subst (λ l. Contains l (StrongAt offset)) is there))));
   }
   at_word (PairAt offset) there hand = record {
     ty = ty;
@@ -42,8 +42,8 @@ module _ (types : List ObjectType) (v : MarkerSeatView) (same : v.types ≡ type
     role_is =
         subst (λ (ts : List ObjectType). role_at_hand (kind_lists ts) (record { place = place; ty = ty; next = offset; part = Read }) ≡ KeyWord) (sym same)
         (role_of_offset types (of_type ty) Pair offset
-        (subst (λ l. Contains l offset) (sym (pairs_told (kinds_in types ty)))
-        (pair_there (traced_words_of (kinds_in types ty)) offset (subst (λ l. Contains l (PairAt offset)) is there))));
+        (subst (λ l. Contains l offset) (sym (pairs_told (declared_kinds types ty)))
+        (pair_there (traced_words_of (declared_kinds types ty)) offset (subst (λ l. Contains l (PairAt offset)) is there))));
   }
 
   pub at_each_word : (i : ℕ) → i < length told → v.hand ≡ hand_over place ty (drop i (traced_in types ty)) → IsAtWord v place (get_or told i (StrongAt 0))

@@ -11,7 +11,7 @@ use Rattle.page_space.specs.Occupying.{Occupies, new_body}
 use Rattle.pair_notes.specs.BodyGraph.{HasType, HasPair}
 use Rattle.pair_notes.specs.declared.notes.Note.{Note}
 use Rattle.gc_graph.specs.declared.kind.Kind.TheVariants.{Pair}
-use Rattle.type_table.specs.Types.{kinds_of, offsets_of_kind}
+use Rattle.type_table.specs.Types.{declared_kinds, offsets_of_kind}
 use Rattle.marking_trials.specs.SmallHeap.{pair_then_strong, two_bodies, IsSmall, IsTraced, IsEitherPlace, IsEitherPair}
 use Rattle.pair_notes.specs.InHand.{Claims}
 use Rattle.pair_notes.specs.Notes.{NotesState, IsNotedIn, group_at}
@@ -96,7 +96,7 @@ place_either k w s p at = elim (either_body k w s at.0 at.1) [
 pub pair_either : (k w s : ℕ) (note : Note) → HasPair pair_then_strong (two_bodies k w s) note.holder note.word → IsEitherPair note
 pair_either k w s note has =
     let ty : has.0.ty ≡ 0 = only_type k w s note.holder has.0.ty (has.0, has.1, has.2, refl) in
-    let among : Contains (2 ∷ []) note.word = subst (λ t. Contains (offsets_of_kind Pair (kinds_of pair_then_strong t)) note.word) ty has.3 in
+    let among : Contains (2 ∷ []) note.word = subst (λ t. Contains (offsets_of_kind Pair (declared_kinds pair_then_strong t)) note.word) ty has.3 in
     record {
       holder = place_either k w s note.holder (has.0, has.1, has.2);
       word = elim (Contains-cons_cases 2 [] note.word among) [ inl here ↦ sym here | inr none ↦ absurd (omega (arith, none.1)) ];
@@ -107,7 +107,7 @@ either_pair k w s note is =
     let at : IsPlace (two_bodies k w s) note.holder = either_place k w s note.holder is.holder in
     let ty : at.0.ty ≡ 0 = only_type k w s note.holder at.0.ty (at.0, at.1, at.2, refl) in
     let among : Contains (2 ∷ []) note.word = subst (Contains (2 ∷ [])) (sym is.word) (Contains-head 2 []) in
-    (at.0, at.1, at.2, subst (λ t. Contains (offsets_of_kind Pair (kinds_of pair_then_strong t)) note.word) (sym ty) among)
+    (at.0, at.1, at.2, subst (λ t. Contains (offsets_of_kind Pair (declared_kinds pair_then_strong t)) note.word) (sym ty) among)
 
 -- marking began, and the first object was marked, claimed and traced
 pub small_traced : (u v w x y : SeatView) (was : Bool) (k n s ty : ℕ) (before after : Marking) → IsSmall u k n s → u.lent ≡ 0 → v ≡ begun u (0 ∷ 256 ∷ [])

@@ -6,7 +6,7 @@ use Rattle.gc_graph.specs.State.{ObjectType}
 use Rattle.gc_graph.specs.declared.kind.Kind.{Kind}
 use Rattle.gc_graph.specs.declared.kind.Kind.TheVariants.{Strong, Pair}
 use Rattle.mark_worklist.specs.declared.marking.Marking.{Marking}
-use Rattle.type_table.specs.Types.{is_kind, kinds_of, offsets_of_kind}
+use Rattle.type_table.specs.Types.{is_kind, declared_kinds, offsets_of_kind}
 use Rattle.object_headers.specs.Offsets.{reference_to}
 use Rattle.marker_core.specs.declared.states.Body.{Body}
 use Rattle.marker_core.specs.Bodies.{IsPlace, IsReference, holds}
@@ -18,8 +18,8 @@ use Rattle.member_fields.specs.Barrier.{IsReadyToStore, MayKeepNamed, HasBarrier
 use Rattle.marking_trials.specs.ThreeObjects.{AreThree, IsUnderWay, strong_then_pair}
 
 kinds_told : (space : SpaceView) (v : SeatView) (told : Bool) → IsUnderWay space v told → (b : Body) → Contains v.bodies b
-    → kinds_of v.types b.ty ≡ Strong ∷ Pair ∷ []
-kinds_told space v told is b there = ap (λ (types : List ObjectType). kinds_of types b.ty) is.types ∙ ap (kinds_of strong_then_pair) (is.bodies b there).0
+    → declared_kinds v.types b.ty ≡ Strong ∷ Pair ∷ []
+kinds_told space v told is b there = ap (λ (types : List ObjectType). declared_kinds types b.ty) is.types ∙ ap (declared_kinds strong_then_pair) (is.bodies b there).0
 
 pub strong_field : (space : SpaceView) (v : SeatView) (told : Bool) (holder : ℕ) → IsUnderWay space v told → IsPlace v.bodies holder
     → HasWord (is_kind Strong) v holder 2

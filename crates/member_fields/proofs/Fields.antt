@@ -3,7 +3,7 @@ use Rattle.std.proofs.Common.{◌≡◌, ℕ, ◌+◌, ◌-◌, ◌<◌, ◌≤�
 use mathlib.Core.Logic.{◌⊎◌}
 use Rattle.std.proofs.lemmas.Bool.{true≢false}
 use Rattle.gc_graph.specs.declared.kind.Kind.TheVariants.{Pair}
-use Rattle.type_table.specs.Types.{kinds_of}
+use Rattle.type_table.specs.Types.{declared_kinds}
 use Rattle.type_table.specs.FieldLaw.{FieldsStandApart}
 use Rattle.marker_core.specs.declared.states.Body.{Body}
 use Rattle.marker_core.specs.declared.states.Role.{Role}
@@ -40,7 +40,7 @@ lone_allowed v holder word w is ready (is_so, apart, has) own fits =
         | inl plain ↦
             (let one : plain.0 ≡ b = is.apart plain.0 b a plain.1 has.there (omega (arith, plain.2)) plain.3 (omega (arith, low)) high in
             absurd (true≢false (sym refer ∙ ap (λ kinds. refers (role_at kinds (a - fields_at b))) (kinds_fit v.types b.ty)
-            ∙ refers_by_kind (kinds_of v.types b.ty) (a - fields_at b)
+            ∙ refers_by_kind (declared_kinds v.types b.ty) (a - fields_at b)
             ∙ subst (λ (c : Body). is_reference_word v.types c (a - fields_at c) ≡ false) one plain.4)))
         | inr both ↦ both
       ];

@@ -2,7 +2,7 @@
 use Rattle.std.proofs.Common.{◌≡◌, ℕ, ◌+◌, false, List, refl, sym, ap, ◌∙◌, arith}
 use Rattle.gc_graph.specs.declared.kind.Kind.{Kind}
 use Rattle.gc_graph.specs.declared.kind.Kind.TheVariants.{Strong, Pair}
-use Rattle.type_table.specs.Types.{kinds_of, is_kind}
+use Rattle.type_table.specs.Types.{declared_kinds, is_kind}
 use Rattle.type_table.specs.KindLaws.{same_kind}
 use Rattle.type_table.specs.FieldLaw.{FieldsStandApart, BeginsAt}
 use Rattle.marker_core.specs.declared.states.Body.{Body}
@@ -17,7 +17,7 @@ use Rattle.page_words.specs.Seat.{SeatView}
 -- the kind of a word is that of its role
 pub kind_told : (v : SeatView) (b : Body) (i : ℕ) → kind_in v.types b i ≡ kind_of_role (role_in (kind_lists v.types) b i)
 kind_told v b i =
-    kind_is_role (kinds_of v.types b.ty) i ∙ ap (λ kinds. kind_of_role (role_at kinds i)) (sym (kinds_fit v.types b.ty))
+    kind_is_role (declared_kinds v.types b.ty) i ∙ ap (λ kinds. kind_of_role (role_at kinds i)) (sym (kinds_fit v.types b.ty))
 
 -- what keeps what it names is a strong word or one of a pair
 pub keeps_none : (role : Role) → (kind_of_role role ≡ Strong → ⊥) → (kind_of_role role ≡ Pair → ⊥) → keeps role ≡ false
@@ -31,7 +31,7 @@ keeps_none PlainWord strong pair = refl
 
 pub key_role : FieldsStandApart → (v : SeatView) (b : Body) (i : ℕ) → IsKeyWord v.types b i → role_in (kind_lists v.types) b i ≡ KeyWord
 key_role law v b i key =
-    let kinds : List Kind = kinds_of v.types b.ty in
+    let kinds : List Kind = declared_kinds v.types b.ty in
     let found = law.begin (is_kind Pair) kinds (i + 2) key in
     let first : BeginsAt (is_kind Pair) kinds (i + 2) found.0 = found.1 in
     let at : i ≡ words_before kinds found.0 = omega (arith, first.offset_is, first.declared) in

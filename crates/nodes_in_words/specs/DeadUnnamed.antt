@@ -10,7 +10,7 @@ use Rattle.gc_graph.specs.State.{Setup, ObjectType, Node, node_at, no_node, is_d
 use Rattle.gc_graph.specs.Fields.{is_plain}
 use Rattle.gc_graph.specs.Members.{has_passed, stays_in}
 use Rattle.gc_graph.specs.Valid.{IsTyped, IsReferenceBelow, NamesLive}
-use Rattle.type_table.specs.Types.{kinds_of}
+use Rattle.type_table.specs.Types.{declared_kinds}
 use Rattle.type_table.specs.Layouts.{kinds_of_words}
 use Rattle.marker_core.specs.Bodies.{IsReference, holds}
 use Rattle.marker_core.specs.declared.states.Body.{Body}
@@ -56,7 +56,7 @@ living_names_living setup nodes v b i known held types there alive reference =
     let typed : IsTyped setup (length nodes) x = All-get_or (IsTyped setup (length nodes)) nodes node.0 no_node node.1 known.typed in
     let kind : is_plain (get_or (kinds_of_words x.object.kinds) i Plain) ≡ false =
     ap (λ ks. is_plain (get_or (kinds_of_words ks) i Plain))
-    (typed.kinds_are ∙ sym (ap (λ (ts : List ObjectType). kinds_of ts b.ty) types ∙ ap (λ (c : Body). kinds_of setup.types c.ty) node.3))
+    (typed.kinds_are ∙ sym (ap (λ (ts : List ObjectType). declared_kinds ts b.ty) types ∙ ap (λ (c : Body). declared_kinds setup.types c.ty) node.3))
     ∙ not-true (is_plain (kind_in v.types b i)) reference in
     subst (IsReference (living v).bodies) (sym (ap (λ (c : Body). get_or c.fields i 0) node.3))
     (reference_word (place_of nodes) (living v) (length nodes) (NamesLive nodes)

@@ -10,7 +10,7 @@ use Rattle.gc_graph.specs.Members.{Contains-map_some}
 use Rattle.gc_graph.specs.State.{Setup, ObjectType, Node, node_at, IsLive}
 use Rattle.gc_graph.specs.Valid.{IsTyped}
 use Rattle.object_headers.specs.Offsets.{reference_to}
-use Rattle.type_table.specs.Types.{kinds_of as kinds_in}
+use Rattle.type_table.specs.Types.{declared_kinds}
 use Rattle.marker_core.specs.declared.states.Body.{Body}
 use Rattle.page_words.specs.Seat.{SeatView}
 use Rattle.pair_notes.specs.BodyGraph.{pair_offsets, values_in, word_at}
@@ -38,7 +38,7 @@ module _ (setup : Setup) (nodes : List Node) (v : SeatView) (n p offset : ℕ) (
   b = body_of (place_of nodes) n node
 
   abbrev kinds : List Kind
-  kinds = kinds_in setup.types b.ty
+  kinds = declared_kinds setup.types b.ty
 
   -- the pair has a value, since it has a key
   value_some : 0 < get_or b.fields (offset - 2 + 1) 0

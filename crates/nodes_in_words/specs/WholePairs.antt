@@ -8,7 +8,7 @@ use Rattle.gc_graph.specs.declared.kind.Value.{Value}
 use Rattle.gc_graph.specs.declared.kind.Value.TheVariants.{Null, Ref, Word}
 use Rattle.gc_graph.specs.State.{Setup, ObjectType, Node, node_at, no_node}
 use Rattle.gc_graph.specs.Valid.{IsTyped, HaveKinds, IsReferenceBelow, ArePaired}
-use Rattle.type_table.specs.Types.{kinds_of as kinds_in}
+use Rattle.type_table.specs.Types.{declared_kinds}
 use Rattle.marker_core.specs.declared.states.Body.{Body}
 use Rattle.marker_core.specs.declared.states.Role.TheVariants.{KeyWord}
 use Rattle.marker_core.specs.Bodies.{role_at, kinds_of_type}
@@ -50,7 +50,7 @@ pairs_whole setup nodes v valid held types b i there role =
     let x : Node = node_at nodes node.0 in
     let typed : IsTyped setup (length nodes) x = All-get_or (IsTyped setup (length nodes)) nodes node.0 no_node node.1 (known_nodes setup nodes valid).typed in
     let kinds : kinds_of_type (kind_lists v.types) b.ty ≡ x.object.kinds =
-    kinds_fit v.types b.ty ∙ ap (λ (ts : List ObjectType). kinds_in ts b.ty) types ∙ ap (λ (c : Body). kinds_in setup.types c.ty) node.3 ∙ sym typed.kinds_are
+    kinds_fit v.types b.ty ∙ ap (λ (ts : List ObjectType). declared_kinds ts b.ty) types ∙ ap (λ (c : Body). declared_kinds setup.types c.ty) node.3 ∙ sym typed.kinds_are
     in
     let both =
     paired_words (place_of nodes) (length nodes) x.object.kinds x.object.values i typed.values_are (ap (λ ks. role_at ks i) (sym kinds) ∙ role)

@@ -8,7 +8,7 @@ use Rattle.std.proofs.lemmas.List.Sums.{list_all-from_AllPass}
 use Rattle.page_words.proofs.Elements.{members_are}
 use Rattle.gc_graph.specs.Members.{any_member, in_range}
 use Rattle.object_headers.specs.Offsets.{reference_to}
-use Rattle.type_table.specs.Types.{kinds_of as kinds_in}
+use Rattle.type_table.specs.Types.{declared_kinds}
 use Rattle.marker_core.specs.declared.states.Body.{Body}
 use Rattle.marker_core.specs.declared.states.Role.{Role}
 use Rattle.marker_core.specs.declared.states.Role.TheVariants.{StrongWord, WeakWord, KeyWord, ValueWord, PlainWord}
@@ -24,7 +24,7 @@ use Rattle.page_words.specs.Seat.{SeatView, IsView, IsQuiet, PairsAreWhole, IsMa
 -- a word refers exactly where the kind of its field isn't plain
 pub role_refers : (v : SeatView) (b : Body) (i : ℕ) → refers (role_in (kind_lists v.types) b i) ≡ is_reference_word v.types b i
 role_refers v b i =
-    ap (λ kinds. refers (role_at kinds i)) (kinds_fit v.types b.ty) ∙ refers_by_kind (kinds_in v.types b.ty) i
+    ap (λ kinds. refers (role_at kinds i)) (kinds_fit v.types b.ty) ∙ refers_by_kind (declared_kinds v.types b.ty) i
 
 pub fill_allowed : (v : SeatView) (a : ℕ) → a < v.count → (IsInBody v.bodies a → ⊥) → seat_can_fill (side v) a ≡ true
 fill_allowed v a below outside =

@@ -8,7 +8,7 @@ use Rattle.gc_graph.specs.declared.kind.Kind.{Kind}
 use Rattle.gc_graph.specs.declared.kind.Kind.TheVariants.{Strong, Weak, Pair, Plain}
 use Rattle.gc_graph.specs.State.{ObjectType, no_type}
 use Rattle.gc_graph.specs.Fields.{is_plain, words_of_kind, field_words}
-use Rattle.type_table.specs.Types.{kinds_of as kinds_in, kind_of}
+use Rattle.type_table.specs.Types.{declared_kinds, kind_of}
 use Rattle.type_table.specs.Layouts.{kinds_of_words}
 use Rattle.type_table.specs.TracedWords.{traced_from, offset_in}
 use Rattle.marker_core.specs.declared.states.Role.{Role}
@@ -21,7 +21,7 @@ abbrev pub kind_lists : List ObjectType → List (List Kind)
 kind_lists types = map (λ type. type.kinds) types
 
 -- the kinds of a type's fields are the same in the step machine's lists and in the table of types
-pub kinds_fit : (types : List ObjectType) (ty : ℕ) → kinds_of_type (kind_lists types) ty ≡ kinds_in types ty
+pub kinds_fit : (types : List ObjectType) (ty : ℕ) → kinds_of_type (kind_lists types) ty ≡ declared_kinds types ty
 kinds_fit types ty = elim (cases_lt ty (length types)) [
   | inl low ↦ get_or-map (λ (type : ObjectType). type.kinds) types ty no_type [] low
   | inr past ↦

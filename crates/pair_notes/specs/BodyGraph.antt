@@ -8,7 +8,7 @@ use Rattle.gc_graph.specs.Graph.{Object}
 use Rattle.gc_graph.specs.State.{ObjectType, no_type}
 use Rattle.gc_graph.specs.Fields.{field_words}
 use Rattle.object_headers.specs.Offsets.{first_field}
-use Rattle.page_words.specs.Types.{kinds_of, offsets_of_kind}
+use Rattle.page_words.specs.Types.{declared_kinds, offsets_of_kind}
 use Rattle.page_words.specs.MachineBodies.{IsReference}
 use Rattle.page_words.specs.Body.{Body}
 
@@ -19,11 +19,11 @@ PlacesDiffer (b ∷ bodies) = All (λ c. c.place ≡ b.place → ⊥) bodies × 
 
 -- the offsets of the body's strong fields, by its type
 abbrev pub strong_offsets : List ObjectType → Body → List ℕ
-strong_offsets types b = offsets_of_kind Strong (kinds_of types b.ty)
+strong_offsets types b = offsets_of_kind Strong (declared_kinds types b.ty)
 
 -- the offsets of the keys of the body's pairs, by its type; a pair's value stands after its key
 abbrev pub pair_offsets : List ObjectType → Body → List ℕ
-pair_offsets types b = offsets_of_kind Pair (kinds_of types b.ty)
+pair_offsets types b = offsets_of_kind Pair (declared_kinds types b.ty)
 
 -- the body's field word at an offset from its place
 abbrev pub word_at : Body → ℕ → ℕ
@@ -33,7 +33,7 @@ word_at b offset = slice_index b.fields (offset - first_field)
 -- of its pairs is null or names a body
 pub record AreReferences (types : List ObjectType) (bodies : List Body) : Type 0 where
   pub typed : (b : Body) → Contains bodies b → b.ty < length types
-  pub whole : (b : Body) → Contains bodies b → field_words (kinds_of types b.ty) ≤ length b.fields
+  pub whole : (b : Body) → Contains bodies b → field_words (declared_kinds types b.ty) ≤ length b.fields
   pub named :
       (b : Body) (offset : ℕ) → Contains bodies b → Contains (strong_offsets types b) offset → IsReference bodies (word_at b offset)
   pub keys :
@@ -58,7 +58,7 @@ HasPair types bodies place offset =
 
 -- no type has a pair
 abbrev pub HaveNoPairs : List ObjectType → Type 0
-HaveNoPairs types = (ty : ℕ) → ty < length types → offsets_of_kind Pair (kinds_of types ty) ≡ []
+HaveNoPairs types = (ty : ℕ) → ty < length types → offsets_of_kind Pair (declared_kinds types ty) ≡ []
 
 -- there is a body at the place, and it has a field word at the offset
 abbrev pub HasWord : List Body → ℕ → ℕ → Type 0

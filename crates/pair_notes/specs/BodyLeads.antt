@@ -8,7 +8,7 @@ use Rattle.gc_graph.specs.declared.kind.Kind.TheVariants.{Strong, Pair}
 use Rattle.gc_graph.specs.Fields.{is_plain}
 use Rattle.gc_graph.specs.Leading.{IsLed}
 use Rattle.gc_graph.specs.State.{ObjectType, no_type}
-use Rattle.page_words.specs.Types.{kinds_of as kinds_in, offsets_of_kind}
+use Rattle.page_words.specs.Types.{declared_kinds, offsets_of_kind}
 use Rattle.page_words.specs.MachineBodies.{role_at, role_in}
 use Rattle.page_words.specs.Closed.{IsClosedOver}
 use Rattle.page_words.specs.Body.{Body}
@@ -20,10 +20,10 @@ use Rattle.pair_notes.specs.PairFields.{PairsIn, field_of_pair, pair_of_field}
 -- ---- what an offset and a role tell of one another
 
 -- the first word of a field is to the machine what the field's kind says
-pub role_of_offset : (types : List ObjectType) (b : Body) (kind : Kind) (offset : ℕ) → Contains (offsets_of_kind kind (kinds_in types b.ty)) offset
+pub role_of_offset : (types : List ObjectType) (b : Body) (kind : Kind) (offset : ℕ) → Contains (offsets_of_kind kind (declared_kinds types b.ty)) offset
     → role_in (kind_lists types) b (offset - 2) ≡ first_role kind
 role_of_offset types b kind offset there =
-    let kinds = kinds_in types b.ty in
+    let kinds = declared_kinds types b.ty in
     let field = field_at_offset kind kinds offset there in
     let number : offset - 2 ≡ words_before kinds field.0 = omega (arith, field.2) in
     ap (λ ks. role_at ks (offset - 2)) (kinds_fit types b.ty) ∙ ap (role_at kinds) number ∙ role_of_field kinds field.0 field.1.low
@@ -31,9 +31,9 @@ role_of_offset types b kind offset there =
 
 -- a word whose role begins a field of the kind is told among the offsets of that kind
 pub offset_told : (types : List ObjectType) (b : Body) (i : ℕ) (kind : Kind) → is_plain kind ≡ false → role_in (kind_lists types) b i ≡ first_role kind
-    → Contains (offsets_of_kind kind (kinds_in types b.ty)) (i + 2)
+    → Contains (offsets_of_kind kind (declared_kinds types b.ty)) (i + 2)
 offset_told types b i kind is role =
-    let kinds = kinds_in types b.ty in
+    let kinds = declared_kinds types b.ty in
     let found = field_of_role kinds i kind is (ap (λ ks. role_at ks i) (sym (kinds_fit types b.ty)) ∙ role) in
     subst (Contains (offsets_of_kind kind kinds)) (omega (arith, found.1.number))
     (offset_of_field kind kinds found.0 (record { low = found.1.declared; is = found.1.kind_is }))
@@ -115,7 +115,7 @@ pub pair_within_closed : (types : List ObjectType) (bodies : List Body) (test : 
     → IsClosedOver (kind_lists types) bodies test → Contains bodies b → test b.place ≡ true → Contains (pair_offsets types b) offset
     → word_at b offset ≡ k + 1 → word_at b (offset + 1) ≡ q + 1 → test k ≡ true → test q ≡ true
 pair_within_closed types bodies test b offset k q closed there member pair key value key_member =
-    let field = field_at_offset Pair (kinds_in types b.ty) offset pair in
+    let field = field_at_offset Pair (declared_kinds types b.ty) offset pair in
     let next : offset + 1 - 2 ≡ offset - 2 + 1 = omega (arith, field.2) in
     let at_value : get_or b.fields (offset - 2 + 1) 0 ≡ q + 1 = ap (λ i. get_or b.fields i 0) (sym next) ∙ value in
     let named : get_or b.fields (offset - 2) 0 - 1 ≡ k = omega (arith, key) in

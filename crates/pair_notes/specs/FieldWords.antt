@@ -5,7 +5,7 @@ use Rattle.std.proofs.lemmas.Bool.{eq-eqb}
 use Rattle.gc_graph.specs.declared.kind.Kind.{Kind}
 use Rattle.gc_graph.specs.declared.kind.Kind.TheVariants.{Strong, Pair}
 use Rattle.gc_graph.specs.Fields.{words_of_kind}
-use Rattle.page_words.specs.Types.{kinds_of as kinds_in, offsets_of_kind}
+use Rattle.page_words.specs.Types.{declared_kinds, offsets_of_kind}
 use Rattle.page_words.specs.Body.{Body}
 use Rattle.page_words.specs.Part.{Part}
 use Rattle.page_words.specs.Part.TheVariants.{Read, Value}
@@ -22,9 +22,9 @@ use Rattle.pair_notes.specs.Fields.{field_at_offset, field_below}
 
 -- all words of a field are there
 pub field_there : (v : SeatView) (b : Body) (kind : Kind) (offset : ℕ) → IsView v → Contains v.bodies b
-    → Contains (offsets_of_kind kind (kinds_in v.types b.ty)) offset → (2 ≤ offset) × (offset + words_of_kind kind ≤ length b.fields + 2)
+    → Contains (offsets_of_kind kind (declared_kinds v.types b.ty)) offset → (2 ≤ offset) × (offset + words_of_kind kind ≤ length b.fields + 2)
 field_there v b kind offset view here there =
-    let kinds = kinds_in v.types b.ty in
+    let kinds = declared_kinds v.types b.ty in
     let field = field_at_offset kind kinds offset there in
     let whole = whole_body v view b here in
     let words = word_count_is kinds in

@@ -17,7 +17,7 @@ abbrev pub first_of : List Kind → ℕ → ℕ
 first_of kinds i = field_words (take i kinds)
 
 -- it is one of the declared fields, and of this kind
-pub record IsFieldOf (kind : Kind) (kinds : List Kind) (i : ℕ) : Type 0 where
+pub record IsFieldOfKind (kind : Kind) (kinds : List Kind) (i : ℕ) : Type 0 where
   pub low : i < length kinds
   pub is : get_or kinds i Plain ≡ kind
 
@@ -31,7 +31,7 @@ two_more kinds i = omega (arith, sum_by-cons words_of_kind Pair (take i kinds))
 
 -- each offset of the fields of a kind is that of the first word of a declared field of this kind
 pub field_at_offset : (kind : Kind) (kinds : List Kind) (offset : ℕ) → Contains (offsets_of_kind kind kinds) offset
-    → (i : ℕ) × IsFieldOf kind kinds i × (offset ≡ 2 + first_of kinds i)
+    → (i : ℕ) × IsFieldOfKind kind kinds i × (offset ≡ 2 + first_of kinds i)
 field_at_offset kind kinds offset there =
     let all : List ℕ = range_with_len 0 (length kinds) in
     let w = Contains-map_some (offset_of kinds) (filter (is_field (is_kind kind) kinds) all) offset there in
@@ -39,7 +39,7 @@ field_at_offset kind kinds offset there =
     let is : is_kind kind (get_or kinds w.0 Plain) ≡ true = has_passed (is_field (is_kind kind) kinds) all w.0 w.1 in
     (w.0, record { low = low; is = same_kind kind (get_or kinds w.0 Plain) is }, omega (arith, w.2, low))
 
-pub offset_of_field : (kind : Kind) (kinds : List Kind) (i : ℕ) → IsFieldOf kind kinds i → Contains (offsets_of_kind kind kinds) (2 + first_of kinds i)
+pub offset_of_field : (kind : Kind) (kinds : List Kind) (i : ℕ) → IsFieldOfKind kind kinds i → Contains (offsets_of_kind kind kinds) (2 + first_of kinds i)
 offset_of_field kind kinds i field =
     let all : List ℕ = range_with_len 0 (length kinds) in
     let at : offset_of kinds i ≡ 2 + first_of kinds i = omega (arith, field.low) in
@@ -49,16 +49,16 @@ offset_of_field kind kinds i field =
     (ap (is_kind kind) field.is ∙ kind_itself kind)))
 
 -- all words of a field are among those of the fields
-pub field_below : (kind : Kind) (kinds : List Kind) (i : ℕ) → IsFieldOf kind kinds i → first_of kinds i + words_of_kind kind ≤ field_words kinds
+pub field_below : (kind : Kind) (kinds : List Kind) (i : ℕ) → IsFieldOfKind kind kinds i → first_of kinds i + words_of_kind kind ≤ field_words kinds
 field_below kind kinds i field = omega (arith, sum_by_more_le words_of_kind kinds i Plain field.low, ap words_of_kind field.is)
 
-pub tail_field : (wanted kind : Kind) (kinds : List Kind) (i : ℕ) → IsFieldOf wanted (kind ∷ kinds) (suc i) → IsFieldOf wanted kinds i
+pub tail_field : (wanted kind : Kind) (kinds : List Kind) (i : ℕ) → IsFieldOfKind wanted (kind ∷ kinds) (suc i) → IsFieldOfKind wanted kinds i
 tail_field wanted kind kinds i field = record { low = omega (arith, field.low); is = field.is }
 
-pub later_field : (wanted kind : Kind) (kinds : List Kind) (i : ℕ) → IsFieldOf wanted kinds i → IsFieldOf wanted (kind ∷ kinds) (suc i)
+pub later_field : (wanted kind : Kind) (kinds : List Kind) (i : ℕ) → IsFieldOfKind wanted kinds i → IsFieldOfKind wanted (kind ∷ kinds) (suc i)
 later_field wanted kind kinds i field = record { low = omega (arith, field.low); is = field.is }
 
-pub other_field : (wanted kind : Kind) (kinds : List Kind) → is_kind wanted kind ≡ false → IsFieldOf wanted (kind ∷ kinds) 0 → ⊥
+pub other_field : (wanted kind : Kind) (kinds : List Kind) → is_kind wanted kind ≡ false → IsFieldOfKind wanted (kind ∷ kinds) 0 → ⊥
 other_field wanted kind kinds other field = true≢false (sym (ap (is_kind wanted) field.is ∙ kind_itself wanted) ∙ other)
 
 -- a word after the first field, seen in all words and in those after it
@@ -79,7 +79,7 @@ word_after_two kinds i n k w words =
 -- a strong field whose word names q
 pub record NamesIn (kinds : List Kind) (words : List ℕ) (q : ℕ) : Type 0 where
   pub index : ℕ
-  pub field : IsFieldOf Strong kinds index
+  pub field : IsFieldOfKind Strong kinds index
   pub word : get_or words (first_of kinds index + 0) 0 ≡ q + 1
 
 after_one : (kind : Kind) (kinds : List Kind) (w : ℕ) (words : List ℕ) (q : ℕ) → words_of_kind kind ≡ 1 → NamesIn kinds words q → NamesIn (kind ∷ kinds) (w ∷ words) q
@@ -119,7 +119,7 @@ field_of_strong (Plain ∷ kinds) q (w ∷ words) there = after_one Plain kinds 
 field_of_strong (Pair ∷ kinds) q (k ∷ []) there = absurd (no_words kinds q there)
 field_of_strong (Pair ∷ kinds) q (k ∷ w ∷ words) there = after_pair kinds k w words q (field_of_strong kinds q words there)
 
-pub strong_of_field : (kinds : List Kind) (q i : ℕ) (words : List ℕ) → IsFieldOf Strong kinds i → get_or words (first_of kinds i + 0) 0 ≡ q + 1
+pub strong_of_field : (kinds : List Kind) (q i : ℕ) (words : List ℕ) → IsFieldOfKind Strong kinds i → get_or words (first_of kinds i + 0) 0 ≡ q + 1
     → Contains (strong_targets kinds (values_in kinds words)) q
 strong_of_field [] q i words field is = absurd (omega (arith, field.low))
 strong_of_field (kind ∷ kinds) q i [] field is = absurd (omega (arith, is))

@@ -11,7 +11,7 @@ use Rattle.page_words.specs.Hand.{Hand}
 use Rattle.page_words.specs.Part.{Part}
 use Rattle.page_words.specs.Part.TheVariants.{Read}
 use Rattle.page_words.specs.MachineBodies.{kinds_of_type}
-use Rattle.page_words.specs.Types.{kinds_of as kinds_in}
+use Rattle.page_words.specs.Types.{declared_kinds}
 use Rattle.page_words.specs.TracedWords.{traced_words_of, offset_in}
 use Rattle.page_words.specs.TracedWord.{TracedWord}
 use Rattle.page_words.specs.Hands.{traced_offsets, hand_past, hand_moved, each_hand}
@@ -115,11 +115,11 @@ hand_last offsets place ty n past = ap (hand_over place ty) (drop_all n offsets 
 -- ---- the offsets are those of the words that the table of types tells
 
 -- the offsets of a type's strong words and pairs are those of the traced words that the table tells, in their order
-pub told_offsets : (types : List ObjectType) (ty : ℕ) (told : List TracedWord) → told ≡ traced_words_of (kinds_in types ty) → traced_in types ty ≡ map offset_in told
-told_offsets types ty told is = ap (traced_offsets 2) (kinds_fit types ty) ∙ sym (traced_fit 2 (kinds_in types ty)) ∙ ap (map offset_in) (sym is)
+pub told_offsets : (types : List ObjectType) (ty : ℕ) (told : List TracedWord) → told ≡ traced_words_of (declared_kinds types ty) → traced_in types ty ≡ map offset_in told
+told_offsets types ty told is = ap (traced_offsets 2) (kinds_fit types ty) ∙ sym (traced_fit 2 (declared_kinds types ty)) ∙ ap (map offset_in) (sym is)
 
 -- a type has as many strong words and pairs as the table tells traced words
-pub told_length : (types : List ObjectType) (ty : ℕ) (told : List TracedWord) → told ≡ traced_words_of (kinds_in types ty) → length (traced_in types ty) ≡ length told
+pub told_length : (types : List ObjectType) (ty : ℕ) (told : List TracedWord) → told ≡ traced_words_of (declared_kinds types ty) → length (traced_in types ty) ≡ length told
 told_length types ty told is = ap length (told_offsets types ty told is) ∙ length-map told offset_in
 
 -- ---- of a view, whose objects are of these types

@@ -9,12 +9,12 @@ use Rattle.gc_graph.specs.Graph.{pair_targets}
 use Rattle.gc_graph.specs.Fields.{words_of_kind}
 use Rattle.pair_notes.specs.BodyGraph.{values_in}
 use Rattle.gc_graph.specs.Members.{Contains-cons_cases, Contains-cons, Contains-head}
-use Rattle.pair_notes.specs.Fields.{first_of, IsFieldOf, later_field, tail_field, other_field, word_after_one, word_after_two, two_more}
+use Rattle.pair_notes.specs.Fields.{first_of, IsFieldOfKind, later_field, tail_field, other_field, word_after_one, word_after_two, two_more}
 
 -- a pair whose words name k and q
 pub record PairsIn (kinds : List Kind) (words : List ℕ) (k q : ℕ) : Type 0 where
   pub index : ℕ
-  pub field : IsFieldOf Pair kinds index
+  pub field : IsFieldOfKind Pair kinds index
   pub key : get_or words (first_of kinds index + 0) 0 ≡ k + 1
   pub value : get_or words (first_of kinds index + 1) 0 ≡ q + 1
 
@@ -73,7 +73,7 @@ field_of_pair (Pair ∷ kinds) k q (suc u ∷ suc w ∷ words) there =
     ]
 
 -- a declared pair whose two words name objects is a pair edge with these as its key and its value
-pub pair_of_field : (kinds : List Kind) (k q i : ℕ) (words : List ℕ) → IsFieldOf Pair kinds i → get_or words (first_of kinds i + 0) 0 ≡ k + 1
+pub pair_of_field : (kinds : List Kind) (k q i : ℕ) (words : List ℕ) → IsFieldOfKind Pair kinds i → get_or words (first_of kinds i + 0) 0 ≡ k + 1
     → get_or words (first_of kinds i + 1) 0 ≡ q + 1 → Contains (pair_targets kinds (values_in kinds words)) (k, q)
 pair_of_field [] k q i words field key value = absurd (omega (arith, field.low))
 pair_of_field (kind ∷ kinds) k q i [] field key value = absurd (omega (arith, key))

@@ -2,7 +2,7 @@
 
 ghost use Rattle.std.specs.Prelude.{◌≡◌, length, IfOk};
 ghost use Rattle.gc_graph.specs.Actions.{action_of};
-ghost use Rattle.callback_table.specs.Table.{kinds_of};
+ghost use Rattle.callback_table.specs.Table.{callback_kinds};
 
 use callback_table::{Action, ActionKind, Bodies, Callback, CallbackTable, Registry};
 use gc_graph::NoMemory;
@@ -50,7 +50,7 @@ fn calls_made(
     table: &CallbackTable,
     calls: &AtomicU64,
 ) -> Result<(u64, u64, ActionKind), NoMemory>
-    requires { length (kinds_of table.now) ≡ 1 }
+    requires { length (callback_kinds table.now) ≡ 1 }
 {
     let mut registry = Registry::new(alloc);
     registry.register(1, 5, &[0])?;
@@ -66,7 +66,7 @@ fn calls_made(
 
 /// A table of one callback, whose calls are counted.
 fn counting_table(alloc: Global, calls: &Arc<AtomicU64>) -> Result<CallbackTable, NoMemory>
-    ensures { IfOk result (λ table. length (kinds_of table) ≡ 1) }
+    ensures { IfOk result (λ table. length (callback_kinds table) ≡ 1) }
 {
     let counted = calls.clone()?;
     let call = Box::new(

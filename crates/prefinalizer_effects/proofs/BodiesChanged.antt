@@ -6,7 +6,7 @@ use Rattle.std.proofs.lemmas.List.{set_comm}
 use Rattle.gc_graph.specs.declared.kind.Kind.{Kind}
 use Rattle.gc_graph.specs.declared.kind.Kind.TheVariants.{Strong, Weak, Pair, Plain}
 use Rattle.gc_graph.specs.State.{ObjectType}
-use Rattle.type_table.specs.Types.{kinds_of, IsFieldAt}
+use Rattle.type_table.specs.Types.{declared_kinds, IsFieldAt}
 use Rattle.marker_core.specs.declared.states.Body.{Body}
 use Rattle.page_words.specs.Seat.{SeatView, with_bodies}
 use Rattle.member_fields.specs.Words.{IsWordIn, with_word_in, written, pair_written}
@@ -80,15 +80,15 @@ written_twice v place i j x y =
 -- what is found of the field, for the bodies at the place
 abbrev pub FoundAs : SeatView → ℕ → ℕ → Kind → ℕ → Type 0
 FoundAs v place field kind word =
-    (b : Body) → Contains v.bodies b → b.place ≡ place → IsFieldAt (kinds_of v.types b.ty) (extra_in v.types b) field (kind, word)
+    (b : Body) → Contains v.bodies b → b.place ≡ place → IsFieldAt (declared_kinds v.types b.ty) (extra_in v.types b) field (kind, word)
 
 module _ (types : List ObjectType) (field : ℕ) (b : Body) where
-  pub cleared_there : (kind : Kind) (word : ℕ) → IsFieldAt (kinds_of types b.ty) (extra_in types b) field (kind, word) → body_cleared_field kind b (word - 2) ≡ body_cleared_at types field b
+  pub cleared_there : (kind : Kind) (word : ℕ) → IsFieldAt (declared_kinds types b.ty) (extra_in types b) field (kind, word) → body_cleared_field kind b (word - 2) ≡ body_cleared_at types field b
   cleared_there kind word found =
       ap (λ k. body_cleared_field k b (word - 2)) found.kind ∙ ap (λ n. body_cleared_field (body_field_kind types b field) b (n - 2)) found.offset
       ∙ sym (cond-true (ltb field (body_field_count types b)) (body_cleared_field (body_field_kind types b field) b (body_field_word types b field)) b (lt-ltb field (body_field_count types b) found.there))
 
-  pub added_there : (kind : Kind) (word amount : ℕ) → IsFieldAt (kinds_of types b.ty) (extra_in types b) field (kind, word)
+  pub added_there : (kind : Kind) (word amount : ℕ) → IsFieldAt (declared_kinds types b.ty) (extra_in types b) field (kind, word)
       → body_added_field kind b (word - 2) amount ≡ body_added_at types field amount b
   added_there kind word amount found =
       ap (λ k. body_added_field k b (word - 2) amount) found.kind ∙ ap (λ n. body_added_field (body_field_kind types b field) b (n - 2) amount) found.offset
@@ -116,7 +116,7 @@ module _ (v : SeatView) (place field word : ℕ) where
       written_twice v place (word + 1) word 0 0
       ∙ changed_same v place (λ b. with_word (word - 2) 0 (with_word (word + 1 - 2) 0 b)) (body_cleared_at v.types field)
       (λ b there at. both b (found b there at) ∙ cleared_there v.types field b Pair word (found b there at)) where
-        both : (b : Body) → IsFieldAt (kinds_of v.types b.ty) (extra_in v.types b) field (Pair, word)
+        both : (b : Body) → IsFieldAt (declared_kinds v.types b.ty) (extra_in v.types b) field (Pair, word)
             → with_word (word - 2) 0 (with_word (word + 1 - 2) 0 b) ≡ body_cleared_field Pair b (word - 2)
         both b found =
             let next : word + 1 - 2 ≡ word - 2 + 1 = omega (arith, found.offset) in

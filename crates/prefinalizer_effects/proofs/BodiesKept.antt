@@ -10,7 +10,7 @@ use Rattle.gc_graph.specs.declared.kind.Kind.TheVariants.{Strong, Weak, Pair, Pl
 use Rattle.gc_graph.specs.Fields.{is_plain}
 use Rattle.gc_graph.specs.State.{ObjectType}
 use Rattle.object_headers.specs.Offsets.{reference_to}
-use Rattle.type_table.specs.Types.{kinds_of, kind_of, size_with, offset_of}
+use Rattle.type_table.specs.Types.{declared_kinds, kind_of, size_with, offset_of}
 use Rattle.type_table.specs.FieldLaw.{FieldsStandApart}
 use Rattle.marker_core.specs.Bodies.{IsReference}
 use Rattle.marker_core.specs.declared.states.Body.{Body}
@@ -83,7 +83,7 @@ module _ (types : List ObjectType) (bodies : List Body) where
 
   pub adding_keeps : FieldsStandApart → (field amount : ℕ) (b : Body) → KeepsLinks types bodies b (body_added_at types field amount b)
   adding_keeps law field amount b =
-      let kinds : List Kind = kinds_of types b.ty in
+      let kinds : List Kind = declared_kinds types b.ty in
       let kind : kind_in types b (body_field_word types b field) ≡ kind_of kinds field =
       law.kind kinds field (offset_of kinds field) (record { first = omega arith; last = omega (arith, some_words (kind_of kinds field)) }) in
       cond_both (ltb field (body_field_count types b)) (body_added_field (body_field_kind types b field) b (body_field_word types b field) amount) b (KeepsLinks types bodies b)
@@ -110,8 +110,8 @@ module _ (v : SeatView) (place : ℕ) (f : Body → Body) (keeps : EachKeeps v p
       let kept : KeepsLinks v.types v.bodies b (f b) = keeps b there at in
       record {
         known = omega (arith, kept.ty, (typed b there).known);
-        whole = subst (λ n. size_with (kinds_of v.types n) 0 ≤ (f b).size) (sym kept.ty)
-            (subst (λ n. size_with (kinds_of v.types b.ty) 0 ≤ n) (sym kept.size) (typed b there).whole);
+        whole = subst (λ n. size_with (declared_kinds v.types n) 0 ≤ (f b).size) (sym kept.ty)
+            (subst (λ n. size_with (declared_kinds v.types b.ty) 0 ≤ n) (sym kept.size) (typed b there).whole);
       })
 
   reference_kept : (w : ℕ) → IsReference v.bodies w → IsReference (changed_at v place f).bodies w

@@ -10,7 +10,7 @@ use Rattle.gc_graph.specs.declared.kind.Kind.TheVariants.{Strong, Weak, Pair, Pl
 use Rattle.gc_graph.specs.Fields.{words_of_kind, field_words, is_pair}
 use Rattle.gc_graph.specs.State.{ObjectType}
 use Rattle.object_headers.specs.declared.header.Header.{Header}
-use Rattle.type_table.specs.Types.{kinds_of, kind_of, count_with, size_with, is_kind, offsets_of_kind, IsFieldAt}
+use Rattle.type_table.specs.Types.{declared_kinds, kind_of, count_with, size_with, is_kind, offsets_of_kind, IsFieldAt}
 use Rattle.type_table.specs.FieldLaw.{FieldsStandApart}
 use Rattle.marker_core.specs.Bodies.{IsPlace, IsReference}
 use Rattle.marker_core.specs.declared.states.Body.{Body}
@@ -30,20 +30,20 @@ pub type_told : (v : SeatView) (b : Body) (header : Header) → IsHeaderOf v b h
 type_told v b header is = is.ty
 
 pub extra_told : (v : SeatView) (types : List ObjectType) (b : Body) (header : Header) (none : ℕ) → types ≡ v.types → IsHeaderOf v b header
-    → none ≡ size_with (kinds_of types header.ty) 0 → header.size - none ≡ extra_in v.types b
+    → none ≡ size_with (declared_kinds types header.ty) 0 → header.size - none ≡ extra_in v.types b
 extra_told v types b header none same is size =
-    let least : none ≡ size_with (kinds_of v.types b.ty) 0 =
-    size ∙ ap (λ ts. size_with (kinds_of ts header.ty) 0) same ∙ ap (λ ty. size_with (kinds_of v.types ty) 0) (type_told v b header is) in
+    let least : none ≡ size_with (declared_kinds v.types b.ty) 0 =
+    size ∙ ap (λ ts. size_with (declared_kinds ts header.ty) 0) same ∙ ap (λ ty. size_with (declared_kinds v.types ty) 0) (type_told v b header is) in
     ap (λ n. n - none) is.size ∙ ap (λ n. b.size - n) least
 
 -- what the table tells of the field, for this body
 pub field_told : (v : SeatView) (types : List ObjectType) (b : Body) (ty extra field : ℕ) (found : Option (Kind × ℕ)) → types ≡ v.types → ty ≡ b.ty
-    → extra ≡ extra_in v.types b → MatchOption found (count_with (kinds_of types ty) extra ≤ field) (IsFieldAt (kinds_of types ty) extra field)
-    → MatchOption found (body_field_count v.types b ≤ field) (IsFieldAt (kinds_of v.types b.ty) (extra_in v.types b) field)
+    → extra ≡ extra_in v.types b → MatchOption found (count_with (declared_kinds types ty) extra ≤ field) (IsFieldAt (declared_kinds types ty) extra field)
+    → MatchOption found (body_field_count v.types b ≤ field) (IsFieldAt (declared_kinds v.types b.ty) (extra_in v.types b) field)
 field_told v types b ty extra field found same type extras is =
     let told : List Kind → ℕ → Type 0 = λ kinds n. MatchOption found (count_with kinds n ≤ field) (IsFieldAt kinds n field) in
-    subst (told (kinds_of v.types b.ty)) extras
-    (subst (λ t. told (kinds_of v.types t) extra) type (subst (λ ts. told (kinds_of ts ty) extra) same is))
+    subst (told (declared_kinds v.types b.ty)) extras
+    (subst (λ t. told (declared_kinds v.types t) extra) type (subst (λ ts. told (declared_kinds ts ty) extra) same is))
 
 -- ---- where the words are
 
@@ -69,9 +69,9 @@ word_below kinds extra field low = elim (cases_lt field (length kinds)) [
 ]
 
 pub found_word : (v : SeatView) (place field : ℕ) (b : Body) (t : Kind × ℕ) (is_so : Kind → Bool) → FieldsStandApart → Contains v.bodies b → b.place ≡ place
-    → IsTypedBody v.types b → IsFieldAt (kinds_of v.types b.ty) (extra_in v.types b) field t → is_so t.0 ≡ true → HasWord is_so v place t.1
+    → IsTypedBody v.types b → IsFieldAt (declared_kinds v.types b.ty) (extra_in v.types b) field t → is_so t.0 ≡ true → HasWord is_so v place t.1
 found_word v place field b t is_so law there at typed found so =
-    let kinds : List Kind = kinds_of v.types b.ty in
+    let kinds : List Kind = declared_kinds v.types b.ty in
     let kind : kind_in v.types b (t.1 - 2) ≡ kind_of kinds field =
     law.kind kinds field t.1 (record { first = omega (arith, found.offset); last = omega (arith, found.offset, some_words (kind_of kinds field)) }) in
     record {
@@ -84,9 +84,9 @@ found_word v place field b t is_so law there at typed found so =
     }
 
 pub found_pair : (v : SeatView) (place field : ℕ) (b : Body) (t : Kind × ℕ) → FieldsStandApart → Contains v.bodies b → b.place ≡ place → IsTypedBody v.types b
-    → IsFieldAt (kinds_of v.types b.ty) (extra_in v.types b) field t → t.0 ≡ Pair → HasPair v place t.1
+    → IsFieldAt (declared_kinds v.types b.ty) (extra_in v.types b) field t → t.0 ≡ Pair → HasPair v place t.1
 found_pair v place field b t law there at typed found pair =
-    let kinds : List Kind = kinds_of v.types b.ty in
+    let kinds : List Kind = declared_kinds v.types b.ty in
     let kind : kind_of kinds field ≡ Pair = sym found.kind ∙ pair in
     let low : field < length kinds = declared_field kinds field (λ plain. true≢false (sym (ap is_pair (sym plain ∙ kind)))) in
     let two : words_of_kind (kind_of kinds field) ≡ 2 = ap words_of_kind kind in
@@ -102,16 +102,16 @@ found_pair v place field b t law there at typed found pair =
     }
 
 pub kinds_told : (v : SeatView) (types : List ObjectType) (b : Body) (header : Header) → types ≡ v.types → IsHeaderOf v b header
-    → kinds_of types header.ty ≡ kinds_of v.types b.ty
-kinds_told v types b header same is = ap (λ ts. kinds_of ts header.ty) same ∙ ap (kinds_of v.types) (type_told v b header is)
+    → declared_kinds types header.ty ≡ declared_kinds v.types b.ty
+kinds_told v types b header same is = ap (λ ts. declared_kinds ts header.ty) same ∙ ap (declared_kinds v.types) (type_told v b header is)
 
 pub size_told : (v : SeatView) (types : List ObjectType) (b : Body) (header : Header) (none : ℕ) → types ≡ v.types → IsHeaderOf v b header
-    → none ≡ size_with (kinds_of types header.ty) 0 → none ≡ field_words (kinds_of v.types b.ty) + 2
+    → none ≡ size_with (declared_kinds types header.ty) 0 → none ≡ field_words (declared_kinds v.types b.ty) + 2
 size_told v types b header none same is size =
     (let told = size ∙ ap (λ kinds. size_with kinds 0) (kinds_told v types b header same is) in omega (arith, told))
 
 -- the body has a word for each word of its declared fields
-pub long_fields : (v : SeatView) (b : Body) → IsView v → Contains v.bodies b → IsTypedBody v.types b → field_words (kinds_of v.types b.ty) ≤ length b.fields
+pub long_fields : (v : SeatView) (b : Body) → IsView v → Contains v.bodies b → IsTypedBody v.types b → field_words (declared_kinds v.types b.ty) ≤ length b.fields
 long_fields v b view there typed =
     let whole : IsWhole v.count (kind_lists v.types) b = whole_body v view b there in
     omega (arith, whole.fields, typed.whole)
@@ -125,10 +125,10 @@ fields_inside v b view there =
 
 -- the body has all words that its type asks for
 pub size_least : (v : SeatView) (types : List ObjectType) (b : Body) (header : Header) (none : ℕ) → types ≡ v.types → IsHeaderOf v b header
-    → none ≡ size_with (kinds_of types header.ty) 0 → IsTypedBody v.types b → none ≤ header.size
+    → none ≡ size_with (declared_kinds types header.ty) 0 → IsTypedBody v.types b → none ≤ header.size
 size_least v types b header none same is size typed =
-    let least : none ≡ size_with (kinds_of v.types b.ty) 0 =
-    size ∙ ap (λ ts. size_with (kinds_of ts header.ty) 0) same ∙ ap (λ ty. size_with (kinds_of v.types ty) 0) (type_told v b header is) in
+    let least : none ≡ size_with (declared_kinds v.types b.ty) 0 =
+    size ∙ ap (λ ts. size_with (declared_kinds ts header.ty) 0) same ∙ ap (λ ty. size_with (declared_kinds v.types ty) 0) (type_told v b header is) in
     omega (arith, least, typed.whole, is.size)
 
 pub type_known : (v : SeatView) (types : List ObjectType) (b : Body) (header : Header) → types ≡ v.types → IsHeaderOf v b header → IsTypedBody v.types b

@@ -11,7 +11,7 @@ use Rattle.gc_graph.specs.Fields.{field_words, with_value, value_at}
 use Rattle.gc_graph.specs.Valid.{IsReferenceBelow, IsPlainWord, IsTyped}
 use Rattle.gc_graph.specs.Actions as graph
 use Rattle.gc_graph.specs.Fields as fields
-use Rattle.type_table.specs.Types.{kinds_of}
+use Rattle.type_table.specs.Types.{declared_kinds}
 use Rattle.marker_core.specs.declared.states.Body.{Body}
 use Rattle.prefinalizer_effects.specs.Acting as bodies
 use Rattle.nodes_in_words.specs.Nodes.{word_of, body_of}
@@ -63,7 +63,7 @@ module _ (setup : Setup) (bound : ℕ) (place : ℕ → ℕ) (k : ℕ) (node : N
 
   -- the body has as many fields
   pub counts_fields : bodies.body_field_count setup.types own ≡ fields.field_count node
-  counts_fields = count_same (kinds_of setup.types node.object.ty) typed.kinds_are
+  counts_fields = count_same (declared_kinds setup.types node.object.ty) typed.kinds_are
 
   kind_same : (f : ℕ) → bodies.body_field_kind setup.types own f ≡ fields.kind_of_field node.object f
   kind_same f = ap (λ (kinds : List Kind). get_or kinds f Plain) (sym typed.kinds_are)

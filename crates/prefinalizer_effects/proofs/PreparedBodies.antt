@@ -8,7 +8,7 @@ use Rattle.gc_graph.specs.State.{Setup, ObjectType, Node, node_at, no_node}
 use Rattle.gc_graph.specs.Fields.{field_words, is_plain}
 use Rattle.gc_graph.specs.Valid.{IsTyped, IsReferenceBelow}
 use Rattle.gc_graph.specs.ActionLaw.{AreTyped}
-use Rattle.type_table.specs.Types.{kinds_of}
+use Rattle.type_table.specs.Types.{declared_kinds}
 use Rattle.type_table.specs.Layouts.{kinds_of_words}
 use Rattle.marker_core.specs.Bodies.{IsReference}
 use Rattle.marker_core.specs.declared.states.Body.{Body}
@@ -30,8 +30,8 @@ bodies_typed setup nodes v types held typed b there =
     let node = body_node nodes v b held there in
     let t : IsTyped setup (length nodes) (node_at nodes node.0) = All-get_or (IsTyped setup (length nodes)) nodes node.0 no_node node.1 typed in
     let x : Node = node_at nodes node.0 in
-    let kinds : kinds_of v.types b.ty ≡ x.object.kinds =
-    ap (λ (ts : List ObjectType). kinds_of ts b.ty) types ∙ ap (λ (c : Body). kinds_of setup.types c.ty) node.3 ∙ sym t.kinds_are in
+    let kinds : declared_kinds v.types b.ty ≡ x.object.kinds =
+    ap (λ (ts : List ObjectType). declared_kinds ts b.ty) types ∙ ap (λ (c : Body). declared_kinds setup.types c.ty) node.3 ∙ sym t.kinds_are in
     record {
       known = omega (arith, t.ty, ap (λ (c : Body). c.ty) node.3, ap length types);
       whole = omega (arith, t.count, ap (λ (c : Body). c.size) node.3, ap field_words kinds);
@@ -45,7 +45,7 @@ bodies_linked setup nodes v types held typed named b i there told =
     let t : IsTyped setup (length nodes) x = All-get_or (IsTyped setup (length nodes)) nodes node.0 no_node node.1 typed in
     let kind : is_plain (get_or (kinds_of_words x.object.kinds) i Plain) ≡ false =
     ap (λ ks. is_plain (get_or (kinds_of_words ks) i Plain))
-    (t.kinds_are ∙ sym (ap (λ (ts : List ObjectType). kinds_of ts b.ty) types ∙ ap (λ (c : Body). kinds_of setup.types c.ty) node.3)) ∙ ap is_plain told in
+    (t.kinds_are ∙ sym (ap (λ (ts : List ObjectType). declared_kinds ts b.ty) types ∙ ap (λ (c : Body). declared_kinds setup.types c.ty) node.3)) ∙ ap is_plain told in
     subst (IsReference v.bodies) (sym (ap (λ (c : Body). get_or c.fields i 0) node.3))
     (reference_word (place_of nodes) v (length nodes) (NamesThere nodes) (λ y is below. there_reference nodes v (length nodes) y held is below)
     x.object.kinds x.object.values i t.values_are (named node.0 node.2) kind)

@@ -7,7 +7,7 @@ use Rattle.std.proofs.lemmas.List.Sums.{sum_by-cons}
 use Rattle.gc_graph.specs.declared.kind.Kind.{Kind}
 use Rattle.gc_graph.specs.declared.kind.Kind.TheVariants.{Plain}
 use Rattle.gc_graph.specs.Fields.{words_of_kind, field_words}
-use Rattle.type_table.specs.Types.{kind_of, IsWordOf}
+use Rattle.type_table.specs.Types.{kind_of, IsWordOfField}
 use Rattle.type_table.specs.FieldLaw.{FieldsStandApart}
 use Rattle.type_table.specs.Layouts.{kinds_of_words}
 use Rattle.prefinalizer_effects.specs.Shown.{shown_field_word, shown_of_kinds}
@@ -16,7 +16,7 @@ use Rattle.type_table.specs.KindLaws.{length-kinds_of_words}
 -- ---- the kinds of words
 
 -- each word of the declared fields belongs to one of them
-pub word_has_field : (kinds : List Kind) (i : ℕ) → i < field_words kinds → (field : ℕ) × IsWordOf kinds field (2 + i)
+pub word_has_field : (kinds : List Kind) (i : ℕ) → i < field_words kinds → (field : ℕ) × IsWordOfField kinds field (2 + i)
 word_has_field [] i low = absurd (omega arith)
 word_has_field (kind ∷ kinds) i low = elim (cases_lt i (words_of_kind kind)) [
   | inl first ↦ (0, record { first = omega arith; last = omega (arith, first) })
@@ -48,7 +48,7 @@ one_more_shown into xs i x room low is front =
 
 -- what is shown of the word with the number i
 pub word_shown : (kinds : List Kind) (fields : List ℕ) (i : ℕ) (kind : Kind) (w x : ℕ) → FieldsStandApart → i < field_words kinds → field_words kinds ≤ length fields
-    → ((field : ℕ) → IsWordOf kinds field (2 + i) → kind ≡ kind_of kinds field) → w ≡ get_or fields i 0 → x ≡ shown_field_word kind w
+    → ((field : ℕ) → IsWordOfField kinds field (2 + i) → kind ≡ kind_of kinds field) → w ≡ get_or fields i 0 → x ≡ shown_field_word kind w
     → x ≡ get_or (shown_of_kinds (kinds_of_words kinds) fields) i 0
 word_shown kinds fields i kind w x law low long tells is told =
     let found = word_has_field kinds i low in

@@ -6,7 +6,7 @@ use Rattle.gc_graph.specs.declared.kind.Kind.{Kind}
 use Rattle.gc_graph.specs.declared.kind.Kind.TheVariants.{Strong, Weak, Pair, Plain}
 use Rattle.gc_graph.specs.State.{ObjectType}
 use Rattle.object_headers.specs.Offsets.{first_field}
-use Rattle.type_table.specs.Types.{kinds_of, kind_of, count_with, size_with, offset_of}
+use Rattle.type_table.specs.Types.{declared_kinds, kind_of, count_with, size_with, offset_of}
 use Rattle.marker_core.specs.Bodies.{IsReference}
 use Rattle.marker_core.specs.declared.states.Body.{Body}
 use Rattle.page_words.specs.Bodies.{kind_in}
@@ -17,7 +17,7 @@ use Rattle.page_words.specs.Seat.{SeatView, with_bodies}
 -- the body is of one of the types, and has a word for each declared field
 pub record IsTypedBody (types : List ObjectType) (b : Body) : Type 0 where
   pub known : b.ty < length types
-  pub whole : size_with (kinds_of types b.ty) 0 ≤ b.size
+  pub whole : size_with (declared_kinds types b.ty) 0 ≤ b.size
 
 -- so is each body
 abbrev pub BodiesAreTyped : SeatView → Type 0
@@ -31,19 +31,19 @@ AreLinked v = (b : Body) (i : ℕ) → Contains v.bodies b → kind_in v.types b
 
 -- the words after those of the declared fields
 abbrev pub extra_in : List ObjectType → Body → ℕ
-extra_in types b = b.size - size_with (kinds_of types b.ty) 0
+extra_in types b = b.size - size_with (declared_kinds types b.ty) 0
 
 -- the declared fields, and one for each extra word
 abbrev pub body_field_count : List ObjectType → Body → ℕ
-body_field_count types b = count_with (kinds_of types b.ty) (extra_in types b)
+body_field_count types b = count_with (declared_kinds types b.ty) (extra_in types b)
 
 -- the kind of a field; an extra word is a plain one
 abbrev pub body_field_kind : List ObjectType → Body → ℕ → Kind
-body_field_kind types b field = kind_of (kinds_of types b.ty) field
+body_field_kind types b field = kind_of (declared_kinds types b.ty) field
 
 -- the number of a field's first word among the body's field words
 abbrev pub body_field_word : List ObjectType → Body → ℕ → ℕ
-body_field_word types b field = offset_of (kinds_of types b.ty) field - first_field
+body_field_word types b field = offset_of (declared_kinds types b.ty) field - first_field
 
 -- the body with w in its field word number i
 abbrev pub with_field_word : Body → ℕ → ℕ → Body

@@ -2,7 +2,7 @@
 use Rattle.std.specs.Prelude.{◌≡◌, ℕ, ◌≤◌, Bool, true, Option, MatchOption, IfSome, Contains}
 use Rattle.gc_graph.specs.declared.kind.Kind.{Kind}
 use Rattle.gc_graph.specs.declared.kind.Kind.TheVariants.{Pair}
-use Rattle.type_table.specs.Types.{kinds_of, IsFieldAt}
+use Rattle.type_table.specs.Types.{declared_kinds, IsFieldAt}
 use Rattle.marker_core.specs.declared.states.Body.{Body}
 use Rattle.page_words.specs.Seat.{SeatView}
 use Rattle.member_fields.specs.Words.{HasWord, HasPair}
@@ -12,7 +12,7 @@ use Rattle.prefinalizer_effects.specs.Acting.{extra_in, body_field_count}
 abbrev pub IsFound : SeatView → ℕ → ℕ → Option (Kind × ℕ) → Type 0
 IsFound v place field found =
     (b : Body) → Contains v.bodies b → b.place ≡ place
-    → MatchOption found (body_field_count v.types b ≤ field) (IsFieldAt (kinds_of v.types b.ty) (extra_in v.types b) field)
+    → MatchOption found (body_field_count v.types b ≤ field) (IsFieldAt (declared_kinds v.types b.ty) (extra_in v.types b) field)
 
 -- the object at the place has a word at the offset that was found, and it is of the kind
 abbrev pub HasFoundWord : SeatView → ℕ → Option (Kind × ℕ) → Type 0

@@ -3,7 +3,7 @@ use Rattle.std.specs.Prelude.{ℕ, ◌==◌, List, [], ◌∷◌, take, if◌the
 use Rattle.gc_graph.specs.declared.kind.Kind.{Kind}
 use Rattle.gc_graph.specs.declared.kind.Kind.TheVariants.{Strong, Weak, Pair, Plain}
 use Rattle.gc_graph.specs.State.{ObjectType}
-use Rattle.type_table.specs.Types.{kinds_of}
+use Rattle.type_table.specs.Types.{declared_kinds}
 use Rattle.type_table.specs.Layouts.{kinds_of_words}
 use Rattle.marker_core.specs.declared.states.Body.{Body}
 
@@ -26,4 +26,4 @@ shown_of_kinds (kind ∷ kinds) (w ∷ words) = shown_field_word kind w ∷ show
 
 -- the words of the body's declared fields are shown, the first 64 of them at most
 abbrev pub shown_body_words : List ObjectType → Body → List ℕ
-shown_body_words types b = take 64 (shown_of_kinds (kinds_of_words (kinds_of types b.ty)) b.fields)
+shown_body_words types b = take 64 (shown_of_kinds (kinds_of_words (declared_kinds types b.ty)) b.fields)

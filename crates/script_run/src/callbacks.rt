@@ -3,7 +3,7 @@
 ghost use Rattle.std.specs.Prelude.{◌≡◌};
 ghost use Rattle.gc_graph.specs.declared.action.ActionKind.TheVariants as K;
 ghost use Rattle.gc_graph.specs.Actions.{action_of};
-ghost use Rattle.callback_table.specs.Table.{kinds_of};
+ghost use Rattle.callback_table.specs.Table.{callback_kinds};
 ghost use Rattle.script_run.specs.Callbacks.{program_kinds};
 
 use super::one_run::run;
@@ -68,7 +68,7 @@ fn run_with<R: Threads, S: Source, K: Sink>(
     callbacks: &CallbackTable,
     gate: &Arc<FreeGate>,
 ) -> Ran
-    requires { kinds_of callbacks.now ≡ program_kinds }
+    requires { callback_kinds callbacks.now ≡ program_kinds }
 {
     let mut kept = None;
     let status = run(rt, alloc, words, source, sink, callbacks, gate, &mut kept);

@@ -3,7 +3,7 @@
 ghost use Rattle.std.specs.Prelude.{◌≡◌, ◌⊎◌, ℕ};
 ghost use Rattle.std.specs.Prelude.{◌≤◌, [], length, map, string_bytes, None, MatchOption};
 ghost use Rattle.std.specs.Prelude.{option_map, Some, true, false};
-ghost use Rattle.callback_table.specs.Table.{kinds_of};
+ghost use Rattle.callback_table.specs.Table.{callback_kinds};
 ghost use Rattle.text_devices.specs.Causes.{Rose};
 ghost use Rattle.text_devices.specs.Devices.{Grew};
 ghost use Rattle.command_line.specs.Options.{options_asked, AreInRanges};
@@ -48,15 +48,15 @@ pub fn run<'a, R: Threads, S: Source, K: Sink, G: Gate + Send + Sync + 'static>(
 ) -> Status
     requires { kept.old ≡ None }
     ensures done { result ≡ Status.Done → MatchOption kept.new ⊥ (λ heap. IsDone
-        (kinds_of callbacks.now) (map string_bytes words.now) (S.left source.old)
+        (callback_kinds callbacks.now) (map string_bytes words.now) (S.left source.old)
         (S.left source.new) (K.written sink.old) (K.written sink.new) heap.core) }
-    ensures stopped { result ≡ Status.WriteFault → IsStopped (kinds_of callbacks.now)
+    ensures stopped { result ≡ Status.WriteFault → IsStopped (callback_kinds callbacks.now)
         (map string_bytes words.now) (S.left source.old) (S.left source.new)
         (K.written sink.old) (K.written sink.new) }
     ensures too_long { result ≡ Status.TooLong →
         IsTooLongInput (S.left source.old) (S.left source.new) }
     ensures script { (line reason : ℕ) → result ≡ Status.Script line reason →
-        IsFaultyInput (length (kinds_of callbacks.now))
+        IsFaultyInput (length (callback_kinds callbacks.now))
         (S.left source.old) (S.left source.new) line reason }
     ensures usage { result ≡ Status.Usage → options_asked (map string_bytes words.now) ≡ None }
     ensures refused { options_asked (map string_bytes words.now) ≡ None →
@@ -80,7 +80,8 @@ pub fn run<'a, R: Threads, S: Source, K: Sink, G: Gate + Send + Sync + 'static>(
     ensures silent { ¬ (result ≡ Status.Done) → ¬ (result ≡ Status.WriteFault) →
         Grew (K.written sink.old) (K.written sink.new) [] }
     ensures kept { ¬ (result ≡ Status.Done) → kept.new ≡ None }
-    ensures complete { AskForScript (length (kinds_of callbacks.now)) (map string_bytes words.now)
+    ensures complete { AskForScript (length (callback_kinds callbacks.now))
+        (map string_bytes words.now)
         (S.left source.old) → ¬ Rose (S.faults source.old) (S.faults source.new) →
         ¬ Rose (K.faults sink.old) (K.faults sink.new) →
         (result ≡ Status.Done) ⊎ (result ≡ Status.NoMemory) }
@@ -113,7 +114,7 @@ pub(crate) fn run_bytes<'a, R: Threads, K: Sink, G: Gate + Send + Sync + 'static
 ) -> Status
     requires empty { kept.old ≡ None }
     requires ranges { AreInRanges options }
-    ensures answer { RunsBytes (kinds_of callbacks.now) options bytes.now
+    ensures answer { RunsBytes (callback_kinds callbacks.now) options bytes.now
         (K.written sink.old) (K.written sink.new) (option_map (λ heap. heap.core) kept.new) result }
     ensures fault { result ≡ Status.WriteFault → Rose (K.faults sink.old) (K.faults sink.new) }
     ensures later { K.faults sink.old ≤ K.faults sink.new }
@@ -141,7 +142,7 @@ fn run_generated<'a, R: Threads, K: Sink, G: Gate + Send + Sync + 'static>(
     requires ranges { AreInRanges options }
     requires some { 1 ≤ asked.count }
     requires few { asked.count ≤ 50000 }
-    ensures answer { RunsScript (kinds_of callbacks.now) options.summary (plan_asked options)
+    ensures answer { RunsScript (callback_kinds callbacks.now) options.summary (plan_asked options)
         (made.generated asked.seed asked.count)
         (K.written sink.old) (K.written sink.new) (option_map (λ heap. heap.core) kept.new) result }
     ensures fault { result ≡ Status.WriteFault → Rose (K.faults sink.old) (K.faults sink.new) }

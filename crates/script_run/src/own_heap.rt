@@ -3,7 +3,7 @@
 ghost use Rattle.std.specs.Prelude.{◌≡◌};
 ghost use Rattle.std.specs.Prelude.{◌≤◌, [], length, None, IfOk};
 ghost use Rattle.std.specs.Prelude.{option_map, Some, false};
-ghost use Rattle.callback_table.specs.Table.{kinds_of};
+ghost use Rattle.callback_table.specs.Table.{callback_kinds};
 ghost use Rattle.text_devices.specs.Causes.{Rose};
 ghost use Rattle.gc_graph.specs.Shapes.{IsShape};
 ghost use Rattle.type_table.specs.Faults.{AreGoodTypes};
@@ -39,8 +39,8 @@ pub(crate) fn run_script<'a, R: Threads, K: Sink, G: Gate + Send + Sync + 'stati
     requires empty { kept.old ≡ None }
     requires shape { IsShape (shape_asked options) }
     requires few { options.markers ≤ 8 }
-    requires runnable { IsRunnable (length (kinds_of callbacks.now)) script }
-    ensures answer { RunsScript (kinds_of callbacks.now) options.summary (plan_asked options)
+    requires runnable { IsRunnable (length (callback_kinds callbacks.now)) script }
+    ensures answer { RunsScript (callback_kinds callbacks.now) options.summary (plan_asked options)
         script (K.written sink.old) (K.written sink.new)
         (option_map (λ heap. heap.core) kept.new) result }
     ensures fault { result ≡ Status.WriteFault → Rose (K.faults sink.old) (K.faults sink.new) }

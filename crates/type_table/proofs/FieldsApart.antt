@@ -8,7 +8,7 @@ use Rattle.gc_graph.specs.declared.kind.Kind.{Kind}
 use Rattle.gc_graph.specs.declared.kind.Kind.TheVariants.{Plain}
 use Rattle.gc_graph.specs.Fields.{words_of_kind, field_words}
 use Rattle.gc_graph.specs.Members.{Contains-map, Contains-map_some, was_in, has_passed, stays_in, in_range, to_range}
-use Rattle.type_table.specs.Types.{kind_of, offset_of, is_field, offsets_where, IsWordOf}
+use Rattle.type_table.specs.Types.{kind_of, offset_of, is_field, offsets_where, IsWordOfField}
 use Rattle.type_table.specs.FieldLaw.{BeginsAt}
 
 -- ---- where fields begin
@@ -45,12 +45,12 @@ later_begins kinds field (suc gap) =
     let e : field + 1 + suc gap ≡ field + 1 + gap + 1 = omega arith in
     omega (arith, ap (offset_of kinds) e, one_step kinds (field + 1 + gap), later_begins kinds field gap)
 
-never_below : (kinds : List Kind) (field other word : ℕ) → IsWordOf kinds field word → IsWordOf kinds other word → field < other → ⊥
+never_below : (kinds : List Kind) (field other word : ℕ) → IsWordOfField kinds field word → IsWordOfField kinds other word → field < other → ⊥
 never_below kinds field other word is also below =
     let e : field + 1 + (other - (field + 1)) ≡ other = omega arith in
     omega (arith, is.last, also.first, later_begins kinds field (other - (field + 1)), ap (offset_of kinds) e)
 
-pub one_field : (kinds : List Kind) (field other word : ℕ) → IsWordOf kinds field word → IsWordOf kinds other word → field ≡ other
+pub one_field : (kinds : List Kind) (field other word : ℕ) → IsWordOfField kinds field word → IsWordOfField kinds other word → field ≡ other
 one_field kinds field other word is also = elim (cases_lt field other) [
   | inl below ↦ absurd (never_below kinds field other word is also below)
   | inr not_below ↦ elim (cases_lt other field) [

@@ -7,7 +7,7 @@ use Rattle.std.proofs.lemmas.List.Sums.{position_or_len_is, fails_before_first, 
 use Rattle.gc_graph.specs.State.{ObjectType}
 use Rattle.type_table.specs.declared.faults.TypeFault.{TypeFault}
 use Rattle.type_table.specs.declared.faults.TypeFault.TheVariants.{TooManyTypes, TooManyFields, NoCallback, NoMemory}
-use Rattle.type_table.specs.Faults.{is_too_wide, is_beyond, names_none, AreGoodTypes, IsFaultOfTypes, IsUnknownOf}
+use Rattle.type_table.specs.Faults.{is_too_wide, is_no_callback, names_none, AreGoodTypes, IsFaultOfTypes, IsUnknownOf}
 
 -- ---- the first place
 
@@ -40,21 +40,21 @@ one_more : (b rest : Bool) (callback : ℕ) (o : Option ℕ) (number : ℕ) → 
 one_more true rest callback o number e later = later e
 one_more false rest callback o number e later = refl
 
-pub found_in : (callbacks : ℕ) (numbers : List ℕ) (callback : ℕ) → find (is_beyond callbacks) numbers ≡ Some callback
+pub found_in : (callbacks : ℕ) (numbers : List ℕ) (callback : ℕ) → find (is_no_callback callbacks) numbers ≡ Some callback
     → not (list_all (is_known callbacks) numbers) ≡ true
 found_in callbacks [] callback e = absurd (none-some callback e)
 found_in callbacks (number ∷ numbers) callback e =
-    one_more (is_known callbacks number) (list_all (is_known callbacks) numbers) callback (find (is_beyond callbacks) numbers) number e
+    one_more (is_known callbacks number) (list_all (is_known callbacks) numbers) callback (find (is_no_callback callbacks) numbers) number e
     (found_in callbacks numbers callback)
 
 one_less : (b rest : Bool) (o : Option ℕ) (number : ℕ) → cond (not b) (Some number) o ≡ None → (o ≡ None → not rest ≡ false) → not (b && rest) ≡ false
 one_less true rest o number e later = later e
 one_less false rest o number e later = absurd (none-some number (sym e))
 
-pub none_in : (callbacks : ℕ) (numbers : List ℕ) → find (is_beyond callbacks) numbers ≡ None → not (list_all (is_known callbacks) numbers) ≡ false
+pub none_in : (callbacks : ℕ) (numbers : List ℕ) → find (is_no_callback callbacks) numbers ≡ None → not (list_all (is_known callbacks) numbers) ≡ false
 none_in callbacks [] e = refl
 none_in callbacks (number ∷ numbers) e =
-    one_less (is_known callbacks number) (list_all (is_known callbacks) numbers) (find (is_beyond callbacks) numbers) number e (none_in callbacks numbers)
+    one_less (is_known callbacks number) (list_all (is_known callbacks) numbers) (find (is_no_callback callbacks) numbers) number e (none_in callbacks numbers)
 
 -- ---- all types
 
@@ -81,6 +81,6 @@ judged callbacks types (Some (NoCallback ty c)) few wide unknown =
     (record { few = few; narrow = λ k d low. ltb-false 64 _ (nowhere is_too_wide types k d wide low); first = unknown.0; number = unknown.1 }, λ e. cc)
 judged callbacks types (Some NoMemory) few wide unknown = absurd unknown
 
-pub same_found : (callbacks : ℕ) (numbers others : List ℕ) (r : Option ℕ) → numbers ≡ others → r ≡ find (is_beyond callbacks) numbers
-    → find (is_beyond callbacks) others ≡ r
-same_found callbacks numbers others r same e = ap (find (is_beyond callbacks)) (sym same) ∙ sym e
+pub same_found : (callbacks : ℕ) (numbers others : List ℕ) (r : Option ℕ) → numbers ≡ others → r ≡ find (is_no_callback callbacks) numbers
+    → find (is_no_callback callbacks) others ≡ r
+same_found callbacks numbers others r same e = ap (find (is_no_callback callbacks)) (sym same) ∙ sym e

@@ -7,11 +7,11 @@ use Rattle.std.proofs.lemmas.List.Concat.{get_or-flat_map}
 use Rattle.gc_graph.specs.declared.kind.Kind.{Kind}
 use Rattle.gc_graph.specs.declared.kind.Kind.TheVariants.{Plain}
 use Rattle.gc_graph.specs.Fields.{words_of_kind, field_words}
-use Rattle.type_table.specs.Types.{kind_of, offset_of, IsWordOf}
+use Rattle.type_table.specs.Types.{kind_of, offset_of, IsWordOfField}
 use Rattle.type_table.specs.Layouts.{kinds_of_words}
 use Rattle.type_table.specs.KindLaws.{length-kinds_of_words}
 
-declared : (kinds : List Kind) (field word : ℕ) → field < length kinds → IsWordOf kinds field word
+declared : (kinds : List Kind) (field word : ℕ) → field < length kinds → IsWordOfField kinds field word
     → get_or (kinds_of_words kinds) (word - 2) Plain ≡ kind_of kinds field
 declared kinds field word low is =
     let f : Kind → List Kind = λ kind. replicate (words_of_kind kind) kind in
@@ -23,7 +23,7 @@ declared kinds field word low is =
     ∙ get_or-flat_map f kinds field j Plain Plain low (omega (arith, length-replicate (words_of_kind (kind_of kinds field)) (kind_of kinds field)))
     ∙ get_or-replicate (words_of_kind (kind_of kinds field)) j (kind_of kinds field) Plain inside
 
-extra : (kinds : List Kind) (field word : ℕ) → length kinds ≤ field → IsWordOf kinds field word
+extra : (kinds : List Kind) (field word : ℕ) → length kinds ≤ field → IsWordOfField kinds field word
     → get_or (kinds_of_words kinds) (word - 2) Plain ≡ kind_of kinds field
 extra kinds field word past is =
     let all : take field kinds ≡ kinds = take_all field kinds past in
@@ -31,7 +31,7 @@ extra kinds field word past is =
     get_or_past (kinds_of_words kinds) (word - 2) Plain (omega (arith, length-kinds_of_words kinds, words, is.first))
     ∙ sym (get_or_past kinds field Plain past)
 
-pub kind_at : (kinds : List Kind) (field word : ℕ) → IsWordOf kinds field word → get_or (kinds_of_words kinds) (word - 2) Plain ≡ kind_of kinds field
+pub kind_at : (kinds : List Kind) (field word : ℕ) → IsWordOfField kinds field word → get_or (kinds_of_words kinds) (word - 2) Plain ≡ kind_of kinds field
 kind_at kinds field word is =
     elim (cases_lt field (length kinds)) [
       | inl low ↦ declared kinds field word low is

@@ -11,8 +11,8 @@ abbrev pub is_too_wide : ObjectType → Bool
 is_too_wide type = nat_lt 64 (length type.kinds)
 
 -- no callback has this number
-abbrev pub is_beyond : ℕ → ℕ → Bool
-is_beyond callbacks number = not (nat_lt number callbacks)
+abbrev pub is_no_callback : ℕ → ℕ → Bool
+is_no_callback callbacks number = not (nat_lt number callbacks)
 
 -- some prefinalizer of the type is no callback
 abbrev pub names_none : ℕ → ObjectType → Bool
@@ -34,7 +34,7 @@ pub record IsFirstUnknown (callbacks : ℕ) (types : List ObjectType) (ty callba
   pub few : length types ≤ 16383
   pub narrow : All (λ type. length type.kinds ≤ 64) types
   pub first : position (names_none callbacks) types ≡ Some ty
-  pub number : find (is_beyond callbacks) (type_of types ty).prefinalizers ≡ Some callback
+  pub number : find (is_no_callback callbacks) (type_of types ty).prefinalizers ≡ Some callback
 
 -- the cause of each fault; want of memory has none
 abbrev pub IsTypeFault : ℕ → List ObjectType → TypeFault → Type 0
@@ -53,5 +53,5 @@ IsUnknownOf callbacks types (TooManyTypes count) = ⊥
 IsUnknownOf callbacks types (TooManyFields ty) = ⊥
 IsUnknownOf callbacks types (NoCallback ty callback) =
     (position (names_none callbacks) types ≡ Some ty)
-    × (find (is_beyond callbacks) (type_of types ty).prefinalizers ≡ Some callback)
+    × (find (is_no_callback callbacks) (type_of types ty).prefinalizers ≡ Some callback)
 IsUnknownOf callbacks types NoMemory = ⊥

@@ -3,7 +3,7 @@ use Rattle.std.specs.Prelude.{◌≡◌, ℕ, ◌-◌, ◌<◌, Bool, true, List
 use Rattle.gc_graph.specs.declared.kind.Kind.{Kind}
 use Rattle.gc_graph.specs.declared.kind.Kind.TheVariants.{Plain}
 use Rattle.object_headers.specs.Offsets.{first_field}
-use Rattle.type_table.specs.Types.{kind_of, offset_of, offsets_where, IsWordOf}
+use Rattle.type_table.specs.Types.{kind_of, offset_of, offsets_where, IsWordOfField}
 use Rattle.type_table.specs.Layouts.{kinds_of_words}
 
 -- the field is a declared one whose kind passes the test, and its first word is at the offset
@@ -22,7 +22,7 @@ pub record FieldsStandApart : Type 0 where
       (is_so : Kind → Bool) (kinds : List Kind) (offset field : ℕ) → BeginsAt is_so kinds offset field
       → Contains (offsets_where is_so kinds) offset
   pub kind :
-      (kinds : List Kind) (field word : ℕ) → IsWordOf kinds field word
+      (kinds : List Kind) (field word : ℕ) → IsWordOfField kinds field word
       → slice_index_or (kinds_of_words kinds) (word - first_field) Plain ≡ kind_of kinds field
   pub apart :
-      (kinds : List Kind) (field other word : ℕ) → IsWordOf kinds field word → IsWordOf kinds other word → field ≡ other
+      (kinds : List Kind) (field other word : ℕ) → IsWordOfField kinds field word → IsWordOfField kinds other word → field ≡ other

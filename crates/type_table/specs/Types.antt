@@ -12,8 +12,8 @@ abbrev pub type_of : List ObjectType → ℕ → ObjectType
 type_of types t = slice_index_or types t no_type
 
 -- the kinds of its declared fields
-abbrev pub kinds_of : List ObjectType → ℕ → List Kind
-kinds_of types t = (type_of types t).kinds
+abbrev pub declared_kinds : List ObjectType → ℕ → List Kind
+declared_kinds types t = (type_of types t).kinds
 
 -- the declared fields, and one for each extra word
 abbrev pub count_with : List Kind → ℕ → ℕ
@@ -56,7 +56,7 @@ abbrev pub offsets_of_kind : Kind → List Kind → List ℕ
 offsets_of_kind kind kinds = offsets_where (is_kind kind) kinds
 
 -- the word at an offset is one of a field's
-pub record IsWordOf (kinds : List Kind) (field word : ℕ) : Type 0 where
+pub record IsWordOfField (kinds : List Kind) (field word : ℕ) : Type 0 where
   pub first : offset_of kinds field ≤ word
   pub last : word < offset_of kinds field + words_of_kind (kind_of kinds field)
 

@@ -67,7 +67,7 @@ fn unknown_of(types: &[TypeDecl], callbacks: u32) -> Option<TypeFault>
 }
 
 fn unknown_in(numbers: &[u32], callbacks: u32) -> Option<u32>
-    ensures { result ≡ find (spec.is_beyond callbacks) numbers.now }
+    ensures { result ≡ find (spec.is_no_callback callbacks) numbers.now }
 {
     numbers.iter().copied().find(|number| *number >= callbacks)
 }

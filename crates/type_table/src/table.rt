@@ -71,8 +71,8 @@ impl TypeTable {
     pub fn field_count(&self, ty: u32, extra: u32) -> u32
         requires ty { ty < length self.now }
         requires extra { extra ≤ 2 ^ 25 }
-        ensures value { result ≡ spec.count_with (spec.kinds_of self.now ty) extra }
-        ensures narrow { length (spec.kinds_of self.now ty) ≤ 64 }
+        ensures value { result ≡ spec.count_with (spec.declared_kinds self.now ty) extra }
+        ensures narrow { length (spec.declared_kinds self.now ty) ≤ 64 }
     {
         self.decl(ty).fields().len() as u32 + extra
     }
@@ -81,7 +81,7 @@ impl TypeTable {
     pub fn size_of(&self, ty: u32, extra: u32) -> u32
         requires ty { ty < length self.now }
         requires extra { extra ≤ 2 ^ 25 }
-        ensures size { result ≡ spec.size_with (spec.kinds_of self.now ty) extra }
+        ensures size { result ≡ spec.size_with (spec.declared_kinds self.now ty) extra }
         ensures most { result ≤ extra + 130 }
     {
         self.layout(ty).words() + extra + FIRST_FIELD
@@ -93,8 +93,8 @@ impl TypeTable {
         requires ty { ty < length self.now }
         requires extra { extra ≤ 2 ^ 25 }
         ensures { MatchOption result
-            (spec.count_with (spec.kinds_of self.now ty) extra ≤ field)
-            (spec.IsFieldAt (spec.kinds_of self.now ty) extra field) }
+            (spec.count_with (spec.declared_kinds self.now ty) extra ≤ field)
+            (spec.IsFieldAt (spec.declared_kinds self.now ty) extra field) }
     {
         let kinds = self.decl(ty).fields();
         let count = kinds.len() as u32;
@@ -112,8 +112,8 @@ impl TypeTable {
     pub fn kind_at(&self, ty: u32, word: u32) -> Kind
         requires ty { ty < length self.now }
         requires word { first_field ≤ word }
-        ensures { (field : ℕ) → spec.IsWordOf (spec.kinds_of self.now ty) field word →
-            result ≡ spec.kind_of (spec.kinds_of self.now ty) field }
+        ensures { (field : ℕ) → spec.IsWordOfField (spec.declared_kinds self.now ty) field word →
+            result ≡ spec.kind_of (spec.declared_kinds self.now ty) field }
     {
         self.layout(ty).kind(word as usize - FIRST_FIELD as usize)
     }
@@ -121,7 +121,7 @@ impl TypeTable {
     /// The offsets of the strong fields, in their order.
     pub fn strong_words(&self, ty: u32) -> &[u32]
         requires { ty < length self.now }
-        ensures { result.now ≡ spec.offsets_of_kind Strong (spec.kinds_of self.now ty) }
+        ensures { result.now ≡ spec.offsets_of_kind Strong (spec.declared_kinds self.now ty) }
     {
         self.layout(ty).strong()
     }
@@ -129,7 +129,7 @@ impl TypeTable {
     /// The offsets of the weak fields, in their order.
     pub fn weak_words(&self, ty: u32) -> &[u32]
         requires { ty < length self.now }
-        ensures { result.now ≡ spec.offsets_of_kind Weak (spec.kinds_of self.now ty) }
+        ensures { result.now ≡ spec.offsets_of_kind Weak (spec.declared_kinds self.now ty) }
     {
         self.layout(ty).weak()
     }
@@ -137,7 +137,7 @@ impl TypeTable {
     /// The offsets of the keys of the pairs, in their order.
     pub fn pair_words(&self, ty: u32) -> &[u32]
         requires { ty < length self.now }
-        ensures { result.now ≡ spec.offsets_of_kind Pair (spec.kinds_of self.now ty) }
+        ensures { result.now ≡ spec.offsets_of_kind Pair (spec.declared_kinds self.now ty) }
     {
         self.layout(ty).pairs()
     }
@@ -146,7 +146,7 @@ impl TypeTable {
     /// reads.
     pub fn traced_words(&self, ty: u32) -> &[TracedWord]
         requires { ty < length self.now }
-        ensures { result.now ≡ traced_words_of (spec.kinds_of self.now ty) }
+        ensures { result.now ≡ traced_words_of (spec.declared_kinds self.now ty) }
     {
         self.layout(ty).traced()
     }
@@ -162,15 +162,15 @@ impl TypeTable {
     fn decl(&self, ty: u32) -> &TypeDecl
         requires { ty < length self.now }
         ensures value { result.now ≡ spec.type_of self.now ty }
-        ensures narrow { length (spec.kinds_of self.now ty) ≤ 64 }
+        ensures narrow { length (spec.declared_kinds self.now ty) ≤ 64 }
     {
         &self.types[ty as usize]
     }
 
     fn layout(&self, ty: u32) -> &Layout
         requires { ty < length self.now }
-        ensures value { result.now ≡ layouts.layout_of (spec.kinds_of self.now ty) }
-        ensures narrow { length (spec.kinds_of self.now ty) ≤ 64 }
+        ensures value { result.now ≡ layouts.layout_of (spec.declared_kinds self.now ty) }
+        ensures narrow { length (spec.declared_kinds self.now ty) ≤ 64 }
     {
         &self.layouts[ty as usize]
     }

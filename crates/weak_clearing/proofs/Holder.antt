@@ -5,7 +5,7 @@ use Rattle.std.proofs.lemmas.Bool.{cases_eq, cond-true, cond-false, cond_both, n
 use Rattle.std.proofs.lemmas.List.Elements.{Contains-get_or}
 use Rattle.gc_graph.specs.declared.kind.Kind.{Kind}
 use Rattle.gc_graph.specs.declared.kind.Kind.TheVariants.{Plain}
-use Rattle.type_table.specs.Types.{kinds_of, offsets_of_kind}
+use Rattle.type_table.specs.Types.{declared_kinds, offsets_of_kind}
 use Rattle.type_table.specs.Layouts.{kinds_of_words}
 use Rattle.marker_core.specs.Bodies.{IsReference, holds}
 use Rattle.marker_core.specs.declared.states.Body.{Body}
@@ -48,12 +48,12 @@ listed_none handles v place =
 
 -- a body with references has a handle at each told offset
 pub has_handle : (handles : WeakHandles) (v : SeatView) (b : Body) (told : List ℕ) (k : ℕ) → IsView v → Contains v.bodies b
-    → HasReferencesOf (kind_of_handles handles) v.types v.bodies b → told ≡ offsets_of_kind (kind_of_handles handles) (kinds_of v.types b.ty) → k < length told
+    → HasReferencesOf (kind_of_handles handles) v.types v.bodies b → told ≡ offsets_of_kind (kind_of_handles handles) (declared_kinds v.types b.ty) → k < length told
     → HasHandle handles v b.place (get_or told k 0)
 has_handle handles v b told k view there has is low =
     let kind : Kind = kind_of_handles handles in
     let whole : IsWhole v.count (kind_lists v.types) b = whole_body v view b there in
-    let field : BeginsField kind 2 (kinds_of v.types b.ty) (get_or told k 0) = field_told kind (kinds_of v.types b.ty) told k is low in
+    let field : BeginsField kind 2 (declared_kinds v.types b.ty) (get_or told k 0) = field_told kind (declared_kinds v.types b.ty) told k is low in
     let number : get_or told k 0 - 2 ≡ field.index = omega (arith, field.at) in
     record {
       body = b;
@@ -78,17 +78,17 @@ handle_stays handles v place offset offsets has =
       place = less.place ∙ has.place;
       first = has.first;
       last = omega (arith, less.size, has.last);
-      told = subst (λ ty. Contains (offsets_of_kind (kind_of_handles handles) (kinds_of v.types ty)) offset) (sym less.ty) has.told;
-      kind = ap (λ ty. get_or (kinds_of_words (kinds_of v.types ty)) (offset - 2) Plain) less.ty ∙ has.kind;
+      told = subst (λ ty. Contains (offsets_of_kind (kind_of_handles handles) (declared_kinds v.types ty)) offset) (sym less.ty) has.told;
+      kind = ap (λ ty. get_or (kinds_of_words (declared_kinds v.types ty)) (offset - 2) Plain) less.ty ∙ has.kind;
       reference = word_stays_reference f (at_lessened handles v.marked place offsets) v.bodies has.body (offset - 2) has.reference;
     }
 
 pub holder_handle : (handles : WeakHandles) (v : SeatView) (place ty : ℕ) (told : List ℕ) (k : ℕ) → IsView v → MarkedHaveReferencesOf (kind_of_handles handles) v
-    → IsMarkedOf v place ty → told ≡ offsets_of_kind (kind_of_handles handles) (kinds_of v.types ty) → k < length told → HasHandle handles v place (get_or told k 0)
+    → IsMarkedOf v place ty → told ≡ offsets_of_kind (kind_of_handles handles) (declared_kinds v.types ty) → k < length told → HasHandle handles v place (get_or told k 0)
 holder_handle handles v place ty told k view have (b, there, at, of, marked) is low =
     subst (λ p. HasHandle handles v p (get_or told k 0)) at
     (has_handle handles v b told k view there (have b there (ap (holds v.marked) at ∙ marked))
-    (is ∙ ap (λ t. offsets_of_kind (kind_of_handles handles) (kinds_of v.types t)) (sym of)) low)
+    (is ∙ ap (λ t. offsets_of_kind (kind_of_handles handles) (declared_kinds v.types t)) (sym of)) low)
 
 -- ---- one more handle
 
@@ -111,23 +111,23 @@ one_more_cleared handles v place offset offsets =
 
 module _ (handles : WeakHandles) (v : SeatView) where
   listed_whole : (b : Body) (ty : ℕ) → holds v.marked b.place ≡ true → b.ty ≡ ty → HasReferencesOf (kind_of_handles handles) v.types v.bodies b
-      → listed_body handles v.marked (offsets_of_kind (kind_of_handles handles) (kinds_of v.types ty)) b ≡ clear_handles handles v.types v.marked b
+      → listed_body handles v.marked (offsets_of_kind (kind_of_handles handles) (declared_kinds v.types ty)) b ≡ clear_handles handles v.types v.marked b
   listed_whole b ty marked of has =
       let kind : Kind = kind_of_handles handles in
-      let cleared : List ℕ = clear_words_of handles v.marked (kinds_of v.types b.ty) b.fields in
-      let words : clear_listed handles v.marked (offsets_of_kind kind (kinds_of v.types ty)) b.fields ≡ cleared =
-      ap (λ t. clear_listed handles v.marked (offsets_of_kind kind (kinds_of v.types t)) b.fields) (sym of)
-      ∙ listed_are_cleared handles v.marked (kinds_of v.types b.ty) b.fields has.whole in
+      let cleared : List ℕ = clear_words_of handles v.marked (declared_kinds v.types b.ty) b.fields in
+      let words : clear_listed handles v.marked (offsets_of_kind kind (declared_kinds v.types ty)) b.fields ≡ cleared =
+      ap (λ t. clear_listed handles v.marked (offsets_of_kind kind (declared_kinds v.types t)) b.fields) (sym of)
+      ∙ listed_are_cleared handles v.marked (declared_kinds v.types b.ty) b.fields has.whole in
       ap (λ (fs : List ℕ). (let x : Body = record b { fields = fs } in x)) words
       ∙ sym (cond-true (holds v.marked b.place) (record b { fields = cleared }) b marked)
 
   pub all_listed : (place ty : ℕ) → IsView v → MarkedHaveReferencesOf (kind_of_handles handles) v → IsMarkedOf v place ty
-      → listed_cleared handles v place (offsets_of_kind (kind_of_handles handles) (kinds_of v.types ty)) ≡ body_cleared handles v place
+      → listed_cleared handles v place (offsets_of_kind (kind_of_handles handles) (declared_kinds v.types ty)) ≡ body_cleared handles v place
   all_listed place ty view have (h, h_there, h_at, h_ty, marked) =
       ap (λ (bs : List Body). with_bodies v bs)
       (map_same (clear_listed_at handles v.marked place offsets) (λ b. cond (eqb b.place place) (clear_handles handles v.types v.marked b) b) v.bodies each) where
         offsets : List ℕ
-        offsets = offsets_of_kind (kind_of_handles handles) (kinds_of v.types ty)
+        offsets = offsets_of_kind (kind_of_handles handles) (declared_kinds v.types ty)
 
         each : (b : Body) → Contains v.bodies b → clear_listed_at handles v.marked place offsets b ≡ cond (eqb b.place place) (clear_handles handles v.types v.marked b) b
         each b there = elim (cases_eq b.place place) [
@@ -149,7 +149,7 @@ handle_looked handles v w holder word same has = record {
   place = has.place;
   first = has.first;
   last = has.last;
-  told = subst (λ ts. Contains (offsets_of_kind (kind_of_handles handles) (kinds_of ts has.body.ty)) word) (ap (λ (x : SeatView). x.types) (sym same)) has.told;
+  told = subst (λ ts. Contains (offsets_of_kind (kind_of_handles handles) (declared_kinds ts has.body.ty)) word) (ap (λ (x : SeatView). x.types) (sym same)) has.told;
   kind = ap (λ (x : SeatView). kind_in x.types has.body (word - 2)) same ∙ has.kind;
   reference = subst (λ bs. IsReference bs (get_or has.body.fields (word - 2) 0)) (ap (λ (x : SeatView). x.bodies) (sym same)) has.reference;
 }

@@ -8,7 +8,7 @@ use Rattle.gc_graph.specs.declared.kind.Kind.TheVariants.{Strong, Weak, Pair, Pl
 use Rattle.gc_graph.specs.State.{ObjectType}
 use Rattle.gc_graph.specs.Fields.{field_words}
 use Rattle.object_headers.specs.Offsets.{reference_to}
-use Rattle.type_table.specs.Types.{kinds_of}
+use Rattle.type_table.specs.Types.{declared_kinds}
 use Rattle.type_table.specs.Layouts.{kinds_of_words}
 use Rattle.marker_core.specs.Bodies.{IsReference, holds}
 use Rattle.marker_core.specs.declared.states.Body.{Body}
@@ -124,9 +124,9 @@ with_fields b fields is = record { place = refl; ty = refl; size = refl; words =
 
 pub body_lessened : (handles : WeakHandles) (types : List ObjectType) (marked : List ℕ) (b : Body) → IsLessened b (clear_handles handles types marked b)
 body_lessened handles types marked b =
-    let cleared : List ℕ = clear_words_of handles marked (kinds_of types b.ty) b.fields in
+    let cleared : List ℕ = clear_words_of handles marked (declared_kinds types b.ty) b.fields in
     cond_both (holds marked b.place) (record b { fields = cleared }) b (IsLessened b)
-    (λ _. with_fields b cleared (words_lessened handles marked (kinds_of types b.ty) b.fields)) (λ _. itself_lessened b)
+    (λ _. with_fields b cleared (words_lessened handles marked (declared_kinds types b.ty) b.fields)) (λ _. itself_lessened b)
 
 module _ (f : Body → Body) (less : (b : Body) → IsLessened b (f b)) where
   pub reference_stays : (bodies : List Body) (w : ℕ) → IsReference bodies w → IsReference (map f bodies) w
@@ -145,9 +145,9 @@ module _ (f : Body → Body) (less : (b : Body) → IsLessened b (f b)) where
       → HasReferencesOf kind types (map f bodies) (f b)
   has_still kind types bodies b has = record {
     typed = subst (λ ty. ty < length types) (sym (less b).ty) has.typed;
-    whole = subst (λ ty. field_words (kinds_of types ty) ≤ length (f b).fields) (sym (less b).ty)
-        (subst (λ n. field_words (kinds_of types b.ty) ≤ n) (sym (less b).words.many) has.whole);
-    named = λ i is. word_stays_reference bodies b i (has.named i (ap (λ ty. get_or (kinds_of_words (kinds_of types ty)) i Plain) (sym (less b).ty) ∙ is));
+    whole = subst (λ ty. field_words (declared_kinds types ty) ≤ length (f b).fields) (sym (less b).ty)
+        (subst (λ n. field_words (declared_kinds types b.ty) ≤ n) (sym (less b).words.many) has.whole);
+    named = λ i is. word_stays_reference bodies b i (has.named i (ap (λ ty. get_or (kinds_of_words (declared_kinds types ty)) i Plain) (sym (less b).ty) ∙ is));
   }
 
   pub references_stay : (kind : Kind) (v : SeatView) → MarkedHaveReferencesOf kind v → MarkedHaveReferencesOf kind (with_bodies v (map f v.bodies))

@@ -4,7 +4,7 @@ use Rattle.std.specs.List.{Contains}
 use Rattle.std.proofs.lemmas.Bool.{cases_Bool, cond_both, cond-true, cond-false, eqb-true}
 use Rattle.gc_graph.specs.declared.kind.Kind.{Kind}
 use Rattle.gc_graph.specs.declared.kind.Kind.TheVariants.{Weak, Pair}
-use Rattle.type_table.specs.Types.{kinds_of, offsets_of_kind}
+use Rattle.type_table.specs.Types.{declared_kinds, offsets_of_kind}
 use Rattle.marker_core.specs.Bodies.{IsReference, holds}
 use Rattle.marker_core.specs.declared.states.Body.{Body}
 use Rattle.page_words.specs.Seat.{SeatView, with_bodies}
@@ -47,7 +47,7 @@ whole_pair v holder word has =
       place = has.place;
       first = has.first;
       last = omega (arith, has.last);
-      key = subst (Contains (offsets_of_kind Pair (kinds_of v.types has.body.ty))) same has.told;
+      key = subst (Contains (offsets_of_kind Pair (declared_kinds v.types has.body.ty))) same has.told;
     }
 
 -- what is read of its first word is a reference

@@ -4,7 +4,7 @@ use Rattle.gc_graph.specs.declared.kind.Kind.{Kind}
 use Rattle.gc_graph.specs.declared.kind.Kind.TheVariants.{Strong, Weak, Pair, Plain}
 use Rattle.gc_graph.specs.Fields.{field_words}
 use Rattle.gc_graph.specs.State.{ObjectType}
-use Rattle.type_table.specs.Types.{kinds_of}
+use Rattle.type_table.specs.Types.{declared_kinds}
 use Rattle.type_table.specs.Layouts.{kinds_of_words}
 use Rattle.marker_core.specs.Bodies.{IsReference, holds}
 use Rattle.marker_core.specs.declared.states.Body.{Body}
@@ -15,7 +15,7 @@ use Rattle.page_words.specs.Seat.{SeatView, with_bodies}
 -- or refers to a body
 pub record HasReferencesOf (kind : Kind) (types : List ObjectType) (bodies : List Body) (b : Body) : Type 0 where
   pub typed : b.ty < length types
-  pub whole : field_words (kinds_of types b.ty) ≤ length b.fields
+  pub whole : field_words (declared_kinds types b.ty) ≤ length b.fields
   pub named : (i : ℕ) → kind_in types b i ≡ kind → IsReference bodies (slice_index b.fields i)
 
 -- so has each marked body
@@ -52,7 +52,7 @@ clear_words marked (kind ∷ kinds) (w ∷ words) = clear_word marked kind w ∷
 -- the weak words of a marked body are cleared, and a body that is not marked stays as it is
 abbrev pub clear_body : List ObjectType → List ℕ → Body → Body
 clear_body types marked b =
-    if holds marked b.place then record b { fields = clear_words marked (kinds_of_words (kinds_of types b.ty)) b.fields } else b
+    if holds marked b.place then record b { fields = clear_words marked (kinds_of_words (declared_kinds types b.ty)) b.fields } else b
 
 -- each body was cleared, and nothing else changed
 abbrev pub with_weak_cleared : SeatView → SeatView
@@ -75,7 +75,7 @@ clear_pair_words marked (Pair ∷ kinds) (key ∷ value ∷ words) =
 -- the pairs of a marked body are cleared, and a body that is not marked stays as it is
 abbrev pub clear_pairs_of : List ObjectType → List ℕ → Body → Body
 clear_pairs_of types marked b =
-    if holds marked b.place then record b { fields = clear_pair_words marked (kinds_of types b.ty) b.fields } else b
+    if holds marked b.place then record b { fields = clear_pair_words marked (declared_kinds types b.ty) b.fields } else b
 
 -- each body's pairs were cleared, and nothing else changed
 abbrev pub with_pairs_cleared : SeatView → SeatView

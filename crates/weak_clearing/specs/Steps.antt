@@ -5,7 +5,7 @@ use Rattle.gc_graph.specs.declared.kind.Kind.TheVariants.{Weak, Pair}
 use Rattle.gc_graph.specs.State.{ObjectType}
 use Rattle.gc_graph.specs.Fields.{words_of_kind}
 use Rattle.object_headers.specs.Offsets.{first_field}
-use Rattle.type_table.specs.Types.{kinds_of, offsets_of_kind}
+use Rattle.type_table.specs.Types.{declared_kinds, offsets_of_kind}
 use Rattle.type_table.specs.Layouts.{kinds_of_words}
 use Rattle.marker_core.specs.Bodies.{IsReference, holds}
 use Rattle.marker_core.specs.declared.states.Body.{Body}
@@ -32,7 +32,7 @@ pub record HasHandle (handles : WeakHandles) (v : SeatView) (holder word : ℕ) 
   pub place : body.place ≡ holder
   pub first : first_field ≤ word
   pub last : word + words_of_kind (kind_of_handles handles) ≤ body.size
-  pub told : Contains (offsets_of_kind (kind_of_handles handles) (kinds_of v.types body.ty)) word
+  pub told : Contains (offsets_of_kind (kind_of_handles handles) (declared_kinds v.types body.ty)) word
   pub kind : kind_in v.types body (word - first_field) ≡ kind_of_handles handles
   pub reference : IsReference v.bodies (slice_index body.fields (word - first_field))
 
@@ -62,7 +62,7 @@ clear_words_of Pairs marked kinds words = clear_pair_words marked kinds words
 -- the handles of a marked body are cleared, and a body that is not marked stays as it is
 abbrev pub clear_handles : WeakHandles → List ObjectType → List ℕ → Body → Body
 clear_handles handles types marked b =
-    if holds marked b.place then record b { fields = clear_words_of handles marked (kinds_of types b.ty) b.fields } else b
+    if holds marked b.place then record b { fields = clear_words_of handles marked (declared_kinds types b.ty) b.fields } else b
 
 -- the handles of the body at a were cleared
 abbrev pub body_cleared : WeakHandles → SeatView → ℕ → SeatView

@@ -1,7 +1,7 @@
 // The weak handles that objects hold.
 
 ghost use Rattle.std.specs.Prelude.{◌≡◌, ℕ, ◌<◌, false, [], length};
-ghost use Rattle.type_table.specs.Types.{kinds_of, offsets_of_kind};
+ghost use Rattle.type_table.specs.Types.{declared_kinds, offsets_of_kind};
 ghost use Rattle.weak_clearing.specs.Steps.{kind_of_handles};
 
 use type_table::TypeTable;
@@ -19,7 +19,8 @@ impl WeakHandles {
     /// The offsets of these in the objects of a type.
     pub fn words_of(self, types: &TypeTable, ty: u32) -> &[u32]
         requires ty { ty < length types.now }
-        ensures { result.now ≡ offsets_of_kind (kind_of_handles self) (kinds_of types.now ty) }
+        ensures { result.now
+            ≡ offsets_of_kind (kind_of_handles self) (declared_kinds types.now ty) }
     {
         match self {
             WeakHandles::Fields => types.weak_words(ty),
@@ -30,7 +31,7 @@ impl WeakHandles {
     /// Whether a type has any of these.
     pub fn are_in(self, types: &TypeTable) -> bool
         ensures none { result ≡ false → (ty : ℕ) → ty < length types.now
-            → offsets_of_kind (kind_of_handles self) (kinds_of types.now ty) ≡ [] }
+            → offsets_of_kind (kind_of_handles self) (declared_kinds types.now ty) ≡ [] }
     {
         for ty in 0..types.count() {
             if !self.words_of(types, ty).is_empty() {

@@ -9,7 +9,7 @@ use Rattle.gc_graph.specs.Pause.{live_count}
 use Rattle.persistent_slots.specs.Clearing.{taken}
 use Rattle.callback_table.specs.declared.registry.Registered.{Registered}
 use Rattle.callback_table.specs.Registry.{IsRegistered}
-use Rattle.callback_table.specs.Table.{kinds_of}
+use Rattle.callback_table.specs.Table.{callback_kinds}
 use Rattle.marker_core.specs.Bodies.{IsPlace, holds}
 use Rattle.marker_core.specs.declared.states.Body.{Body}
 use Rattle.page_words.specs.Seat.{SeatView}
@@ -43,15 +43,15 @@ mark_out-more-requires-clause-shared g c = λ x p is.
 pub clear_weak-requires-clause-references : goal.clear_weak-requires-clause-references
 clear_weak-requires-clause-references g c =
     let marks = c.mark_out-more.ensures.over in
-    marked_references Weak (setup_in_space c.args.parts.space.now c.args.parts.types.now (kinds_of c.args.parts.callbacks.now)) c.args.parts.nodes.now.value c.mark_out-more.new.seat refl (marks.known ∙ c.requires.types)
-    (alive_marked (setup_in_space c.args.parts.space.now c.args.parts.types.now (kinds_of c.args.parts.callbacks.now)) c.args.parts.nodes.now.value (IsRootPlace c.args.parts.strong.now c.pause_begin-held.result c.args.precise c.args.parts.seat.now.bodies c.args.stack.now) (IsMayOrRoot c.pause_begin-held.result c.args.precise c.args.parts.seat.now c.args.stack.now)
+    marked_references Weak (setup_in_space c.args.parts.space.now c.args.parts.types.now (callback_kinds c.args.parts.callbacks.now)) c.args.parts.nodes.now.value c.mark_out-more.new.seat refl (marks.known ∙ c.requires.types)
+    (alive_marked (setup_in_space c.args.parts.space.now c.args.parts.types.now (callback_kinds c.args.parts.callbacks.now)) c.args.parts.nodes.now.value (IsRootPlace c.args.parts.strong.now c.pause_begin-held.result c.args.precise c.args.parts.seat.now.bodies c.args.stack.now) (IsMayOrRoot c.pause_begin-held.result c.args.precise c.args.parts.seat.now c.args.stack.now)
     c.args.parts.seat.now c.mark_out-more.new.seat c.requires.valid c.requires.held (c.bodies_lie_apart.ensures.marking c.requires.ready.on).no_dead marks)
 
 pub clear_weak-requires-clause-pairs : goal.clear_weak-requires-clause-pairs
 clear_weak-requires-clause-pairs g c =
     let marks = c.mark_out-more.ensures.over in
-    marked_references Pair (setup_in_space c.args.parts.space.now c.args.parts.types.now (kinds_of c.args.parts.callbacks.now)) c.args.parts.nodes.now.value c.mark_out-more.new.seat refl (marks.known ∙ c.requires.types)
-    (alive_marked (setup_in_space c.args.parts.space.now c.args.parts.types.now (kinds_of c.args.parts.callbacks.now)) c.args.parts.nodes.now.value (IsRootPlace c.args.parts.strong.now c.pause_begin-held.result c.args.precise c.args.parts.seat.now.bodies c.args.stack.now) (IsMayOrRoot c.pause_begin-held.result c.args.precise c.args.parts.seat.now c.args.stack.now)
+    marked_references Pair (setup_in_space c.args.parts.space.now c.args.parts.types.now (callback_kinds c.args.parts.callbacks.now)) c.args.parts.nodes.now.value c.mark_out-more.new.seat refl (marks.known ∙ c.requires.types)
+    (alive_marked (setup_in_space c.args.parts.space.now c.args.parts.types.now (callback_kinds c.args.parts.callbacks.now)) c.args.parts.nodes.now.value (IsRootPlace c.args.parts.strong.now c.pause_begin-held.result c.args.precise c.args.parts.seat.now.bodies c.args.stack.now) (IsMayOrRoot c.pause_begin-held.result c.args.precise c.args.parts.seat.now c.args.stack.now)
     c.args.parts.seat.now c.mark_out-more.new.seat c.requires.valid c.requires.held (c.bodies_lie_apart.ensures.marking c.requires.ready.on).no_dead marks)
 
 pub clear_weak-requires-clause-places : goal.clear_weak-requires-clause-places
@@ -75,7 +75,7 @@ prefinalise-requires-clause-ready g c =
     let judged_is : c.judged.result.value ≡ nodes_after (kept_of (holds c.mark_out-more.new.seat.marked) c.args.parts.nodes.now.value) c.args.parts.nodes.now.value =
     c.judged.ensures ∙ ap (λ (u : SeatView). nodes_after (kept_of (holds u.marked) c.args.parts.nodes.now.value) c.args.parts.nodes.now.value) (c.clear_region.ensures.view ∙ c.clear_weak.ensures.fields) in
     let ready : IsPrepared c.args.parts.space.now c.args.parts.types.now (both_cleared y) (nodes_after (kept_of (holds y.marked) nodes) nodes) =
-    prepared c.args.parts.space.now c.args.parts.types.now (kinds_of c.args.parts.callbacks.now) nodes (IsRootPlace c.args.parts.strong.now c.pause_begin-held.result c.args.precise c.args.parts.seat.now.bodies c.args.stack.now) (IsMayOrRoot c.pause_begin-held.result c.args.precise c.args.parts.seat.now c.args.stack.now)
+    prepared c.args.parts.space.now c.args.parts.types.now (callback_kinds c.args.parts.callbacks.now) nodes (IsRootPlace c.args.parts.strong.now c.pause_begin-held.result c.args.precise c.args.parts.seat.now.bodies c.args.stack.now) (IsMayOrRoot c.pause_begin-held.result c.args.precise c.args.parts.seat.now c.args.stack.now)
     c.args.parts.seat.now y c.requires.valid c.requires.types c.requires.heap (c.bodies_lie_apart.ensures.marking c.requires.ready.on).no_dead c.requires.held c.requires.few marks in
     subst (IsPrepared c.args.parts.space.now c.args.parts.types.now c.clear_region.new.seat) (sym judged_is)
     (prepared_looked c.args.parts.space.now c.args.parts.types.now (both_cleared y) c.clear_region.new.seat (nodes_after (kept_of (holds y.marked) nodes) nodes)
@@ -85,7 +85,7 @@ pub prefinalise-requires-clause-registered : goal.prefinalise-requires-clause-re
 prefinalise-requires-clause-registered g c = λ k d low.
     let judged_is : c.judged.result.value ≡ nodes_after (kept_of (holds c.mark_out-more.new.seat.marked) c.args.parts.nodes.now.value) c.args.parts.nodes.now.value =
     c.judged.ensures ∙ ap (λ (u : SeatView). nodes_after (kept_of (holds u.marked) c.args.parts.nodes.now.value) c.args.parts.nodes.now.value) (c.clear_region.ensures.view ∙ c.clear_weak.ensures.fields) in
-    let callbacks : ℕ = length (kinds_of c.args.parts.callbacks.now) in
+    let callbacks : ℕ = length (callback_kinds c.args.parts.callbacks.now) in
     let entry : Registered = get_or c.args.parts.registry.now.entries k d in
     subst (λ (ns : List Node). IsRegistered ns callbacks entry) (sym judged_is)
     (registered_after (kept_of (holds c.mark_out-more.new.seat.marked) c.args.parts.nodes.now.value) c.args.parts.nodes.now.value callbacks entry (c.requires.registered k d low))
@@ -136,12 +136,12 @@ returns-clause-paused g c = λ slots may names within.
     let other : ℕ → Type 0 = IsOtherRoot c.pause_begin-held.result c.args.precise v.bodies c.args.stack.now in
     let are = others_at nodes c.args.parts.region.now c.args.parts.pass.now c.pause_begin-held.result c.args.precise c.args.stack.now v c.requires.shared
     c.pause_begin-held.ensures.held (c.bodies_lie_apart.ensures.marking c.requires.ready.on).no_dead c.requires.held in
-    let at = has_marked (setup_in_space c.args.parts.space.now c.args.parts.types.now (kinds_of c.args.parts.callbacks.now)) nodes slots c.args.parts.strong.now may others other v
+    let at = has_marked (setup_in_space c.args.parts.space.now c.args.parts.types.now (callback_kinds c.args.parts.callbacks.now)) nodes slots c.args.parts.strong.now may others other v
     c.mark_out-more.new.seat c.bodies_lie_apart.ensures c.requires.ready.on c.requires.valid c.requires.held names within are (marks g c) in
-    let between = keeps_between (setup_in_space c.args.parts.space.now c.args.parts.types.now (kinds_of c.args.parts.callbacks.now)) nodes (slot_targets slots ++ others)
+    let between = keeps_between (setup_in_space c.args.parts.space.now c.args.parts.types.now (callback_kinds c.args.parts.callbacks.now)) nodes (slot_targets slots ++ others)
     (members may ++ others) (IsRootPlace c.args.parts.strong.now c.pause_begin-held.result c.args.precise v.bodies c.args.stack.now)
     (IsMayOrRoot c.pause_begin-held.result c.args.precise v c.args.stack.now) v c.mark_out-more.new.seat c.reach_is_least.ensures at in
-    paused_is (kinds_of c.args.parts.callbacks.now) (roots_with (slot_targets slots) nodes c.args.parts.region.now c.args.precise c.args.stack.now)
+    paused_is (callback_kinds c.args.parts.callbacks.now) (roots_with (slot_targets slots) nodes c.args.parts.region.now c.args.precise c.args.stack.now)
     (roots_with (members may) nodes c.args.parts.region.now c.args.precise c.args.stack.now) (kept g c) nodes c.judged.result.value c.prefinalise.new.nodes.value
     c.args.parts.registry.now c.prefinalise.new.registry
     (subst (λ least. IsKeptBetween nodes least (roots_with (members may) nodes c.args.parts.region.now c.args.precise c.args.stack.now) (kept g c))
@@ -206,6 +206,6 @@ returns-clause-looked g c = λ precise fine.
     (starts_with_trans z.looked y.looked w.looked c.prefinalise.ensures.looked
     (starts_with_trans y.looked x.looked w.looked c.clear_region.ensures.looked c.clear_weak.ensures.looked))
     (c.prefinalise.ensures.early ∙ ap (λ (u : SeatView). u.early) (c.clear_region.ensures.view ∙ c.clear_weak.ensures.fields))
-    (looked_at_kept (setup_in_space c.args.parts.space.now c.args.parts.types.now (kinds_of c.args.parts.callbacks.now)) nodes c.prefinalise.new.nodes.value v w c.requires.valid c.requires.held
+    (looked_at_kept (setup_in_space c.args.parts.space.now c.args.parts.types.now (callback_kinds c.args.parts.callbacks.now)) nodes c.prefinalise.new.nodes.value v w c.requires.valid c.requires.held
     c.requires.types (c.bodies_lie_apart.ensures.marking c.requires.ready.on).no_dead c.bodies_lie_apart-2.ensures (marks g c).bodies (stayed g c))
     (c.mark_out-more.ensures.looked precise fine)

@@ -1,6 +1,6 @@
 use Rattle.std.proofs.Common.{rules, ◌≡◌, ◌+◌, ◌<◌, ◌^◌, true, [], ◌∷◌, sym, ap, subst, arith}
 use Rattle.std.proofs.lemmas.List.Elements.{Contains-push}
-use Rattle.type_table.specs.Types.{kinds_of}
+use Rattle.type_table.specs.Types.{declared_kinds}
 use Rattle.type_table.specs.TracedWords.{traced_words_of}
 use Rattle.page_words.specs.Seat.{SeatView, is_grey_at}
 use Rattle.pair_notes.specs.Notes.{NotesGrow}
@@ -49,13 +49,13 @@ returns-in-Some-clause-works g c =
 pub returns-in-Some-clause-under_way : goal.returns-in-Some-clause-under_way
 returns-in-Some-clause-under_way g c =
     grey_under_way c.args.types.now c.args.seat.now c.claim.new.seat c.trace_fields.new.seat c.args.marking.now c.trace_fields.new.marking c.args.notes.now
-    c.trace_fields.new.notes c.args.place (read g c) c.in-Some.ty (traced_words_of (kinds_of c.args.types.now c.in-Some.ty)) c.in-Some.ensures.claimed.noted
+    c.trace_fields.new.notes c.args.place (read g c) c.in-Some.ty (traced_words_of (declared_kinds c.args.types.now c.in-Some.ty)) c.in-Some.ensures.claimed.noted
     c.trace_fields.ensures.told c.requires.ground.known c.requires.under_way
 
 pub returns-in-Some-clause-noted : goal.returns-in-Some-clause-noted
 returns-in-Some-clause-noted g c =
     grey_noted c.args.types.now c.args.seat.now c.claim.new.seat c.trace_fields.new.seat c.args.marking.now c.trace_fields.new.marking c.args.notes.now
-    c.trace_fields.new.notes c.args.place (read g c) c.in-Some.ty (traced_words_of (kinds_of c.args.types.now c.in-Some.ty)) c.in-Some.ensures.claimed.noted
+    c.trace_fields.new.notes c.args.place (read g c) c.in-Some.ty (traced_words_of (declared_kinds c.args.types.now c.in-Some.ty)) c.in-Some.ensures.claimed.noted
     c.trace_fields.ensures.told
 
 pub returns-in_default-clause-ground : goal.returns-in_default-clause-ground

@@ -5,7 +5,7 @@ use Rattle.std.proofs.lemmas.List.{length_push}
 use Rattle.std.proofs.lemmas.List.Elements.{Contains-push, Contains-push_cases}
 use Rattle.gc_graph.specs.declared.kind.Kind.TheVariants.{Strong}
 use Rattle.gc_graph.specs.State.{ObjectType}
-use Rattle.type_table.specs.Types.{kinds_of, offsets_of_kind}
+use Rattle.type_table.specs.Types.{declared_kinds, offsets_of_kind}
 use Rattle.pair_notes.specs.Marking.{GrowsWithin, HasStrongMarked, HasTargetMarked}
 use Rattle.pair_notes.specs.InHand.{hand_over, traced_in}
 use Rattle.ephemerons.specs.Fixpoint.{with_held}
@@ -35,8 +35,8 @@ trace_strong_word-requires-clause-hand g c =
     let all : traced_in u.types c.args.ty ≡ c.in-Some.others.now ++ last ∷ [] =
     all_traced c.args.types.now u c.args.place c.args.ty told c.bodies_lie_apart.ensures c.requires.types c.requires.pairless c.requires.body
     c.strong_words-strong.ensures ∙ c.in-Some.ensures.cases.0 in
-    let strong : told ≡ offsets_of_kind Strong (kinds_of u.types c.args.ty) =
-    c.strong_words-strong.ensures ∙ ap (λ (ts : List ObjectType). offsets_of_kind Strong (kinds_of ts c.args.ty)) (sym c.requires.types) in
+    let strong : told ≡ offsets_of_kind Strong (declared_kinds u.types c.args.ty) =
+    c.strong_words-strong.ensures ∙ ap (λ (ts : List ObjectType). offsets_of_kind Strong (declared_kinds ts c.args.ty)) (sym c.requires.types) in
     at_strong_field u v (same_bodies u v c.args.marking.now c.trace_words.new.marking c.trace_words.ensures.marks)
     (same_types u v c.args.marking.now c.trace_words.new.marking c.trace_words.ensures.marks) c.args.place c.args.ty c.requires.body last
     (subst (λ l. Contains l last) (sym c.in-Some.ensures.cases.0 ∙ strong) (Contains-push c.in-Some.others.now last))
@@ -63,8 +63,8 @@ returns-in-Some-clause-strong g c =
     let v = c.trace_words.new.seat in
     let w = c.trace_strong_word.new.seat in
     let after = with_held c.trace_strong_word.result c.trace_words.new.marking in
-    let strong : c.strong_words-strong.result.now ≡ offsets_of_kind Strong (kinds_of u.types c.args.ty) =
-    c.strong_words-strong.ensures ∙ ap (λ (ts : List ObjectType). offsets_of_kind Strong (kinds_of ts c.args.ty)) (sym c.requires.types) in
+    let strong : c.strong_words-strong.result.now ≡ offsets_of_kind Strong (declared_kinds u.types c.args.ty) =
+    c.strong_words-strong.ensures ∙ ap (λ (ts : List ObjectType). offsets_of_kind Strong (declared_kinds ts c.args.ty)) (sym c.requires.types) in
     subst (λ (ts : List ObjectType). HasStrongMarked ts w c.args.place) c.requires.types
     (all_named u w c.args.place c.args.ty c.strong_words-strong.result.now c.bodies_lie_apart.ensures c.requires.body strong
     (same_bodies u w c.args.marking.now after (returns-in-Some-clause-marks g c))
@@ -92,8 +92,8 @@ returns-in-Some-clause-hand g c =
 pub returns-in-None-clause-strong : goal.returns-in-None-clause-strong
 returns-in-None-clause-strong g c =
     let u = c.args.seat.now in
-    let strong : c.strong_words-strong.result.now ≡ offsets_of_kind Strong (kinds_of u.types c.args.ty) =
-    c.strong_words-strong.ensures ∙ ap (λ (ts : List ObjectType). offsets_of_kind Strong (kinds_of ts c.args.ty)) (sym c.requires.types) in
+    let strong : c.strong_words-strong.result.now ≡ offsets_of_kind Strong (declared_kinds u.types c.args.ty) =
+    c.strong_words-strong.ensures ∙ ap (λ (ts : List ObjectType). offsets_of_kind Strong (declared_kinds ts c.args.ty)) (sym c.requires.types) in
     subst (λ (ts : List ObjectType). HasStrongMarked ts u c.args.place) c.requires.types
     (all_named u u c.args.place c.args.ty c.strong_words-strong.result.now c.bodies_lie_apart.ensures c.requires.body strong refl
     (λ o there. absurd (omega (arith, there.1, c.in-None.ensures.cases))))

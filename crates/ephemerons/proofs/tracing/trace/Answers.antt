@@ -1,5 +1,5 @@
 use Rattle.std.proofs.Common.{◌≡◌, true, sym, ap, ◌∙◌, subst, inl}
-use Rattle.type_table.specs.Types.{kinds_of}
+use Rattle.type_table.specs.Types.{declared_kinds}
 use Rattle.type_table.specs.TracedWords.{traced_words_of}
 use Rattle.marker_core.specs.declared.states.Body.{Body}
 use Rattle.marker_core.specs.Bodies.{holds}
@@ -28,10 +28,10 @@ returns-clause-told g c ty has =
     let known : HasType c.args.seat.now.bodies c.args.place c.type_of-ty.result = c.type_of-ty.ensures.body in
     let one : known.0 ≡ has.0 = same_body c.args.seat.now known.0 has.0 c.bodies_lie_apart.ensures known.1 has.1 (known.2 ∙ sym has.2) in
     let same : c.type_of-ty.result ≡ ty = sym known.3 ∙ ap (λ (b : Body). b.ty) one ∙ has.3 in
-    subst (λ t. Traces c.args.seat.now c.args.notes.now c.trace_fields.new.seat c.trace_fields.new.notes c.args.place (traced_words_of (kinds_of c.args.types.now t)))
+    subst (λ t. Traces c.args.seat.now c.args.notes.now c.trace_fields.new.seat c.trace_fields.new.notes c.args.place (traced_words_of (declared_kinds c.args.types.now t)))
     same
     (traces_from c.args.seat.now c.type_of-ty.new.seat c.type_of-ty.ensures.view c.args.notes.now c.trace_fields.new.seat c.trace_fields.new.notes c.args.place
-    (traced_words_of (kinds_of c.args.types.now c.type_of-ty.result)) c.trace_fields.ensures.told)
+    (traced_words_of (declared_kinds c.args.types.now c.type_of-ty.result)) c.trace_fields.ensures.told)
 
 pub returns-clause-looked : goal.returns-clause-looked
 returns-clause-looked g c =

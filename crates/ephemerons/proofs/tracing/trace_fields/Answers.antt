@@ -5,7 +5,7 @@ use Rattle.gc_graph.specs.Members.{Contains-take_more_cases}
 use Rattle.gc_graph.specs.State.{ObjectType}
 use Rattle.type_table.specs.declared.traced.TracedWord.{TracedWord}
 use Rattle.type_table.specs.declared.traced.TracedWord.TheVariants.{StrongAt}
-use Rattle.type_table.specs.Types.{kinds_of}
+use Rattle.type_table.specs.Types.{declared_kinds}
 use Rattle.type_table.specs.TracedWords.{traced_words_of}
 use Rattle.pair_notes.specs.Marking.{GrowsWithin, HasStrongMarked}
 use Rattle.pair_notes.specs.Notes.{NotesGrow, HasPairsNoted}
@@ -42,7 +42,7 @@ trace_word-requires-clause-hand g c =
     at_each_word u v (same_bodies u v c.args.marking.now c.loop-word.marking c.loop-word.invariant.marks)
     (same_types u v c.args.marking.now c.loop-word.marking c.loop-word.invariant.marks) c.args.place c.args.ty c.requires.body
     c.traced_words-traced.result.now
-    (c.traced_words-traced.ensures ∙ ap (λ (ts : List ObjectType). traced_words_of (kinds_of ts c.args.ty)) (sym c.requires.types)) c.loop-word.word-index
+    (c.traced_words-traced.ensures ∙ ap (λ (ts : List ObjectType). traced_words_of (declared_kinds ts c.args.ty)) (sym c.requires.types)) c.loop-word.word-index
     c.loop-word-test.true c.loop-word.invariant.hand
 
 pub loop-word-preserved : goal.loop-word-preserved
@@ -55,8 +55,8 @@ loop-word-preserved g c =
     let marks = c.loop-word.invariant.marks in
     let types = same_types u v c.args.marking.now c.loop-word.marking marks in
     let bodies = same_bodies u v c.args.marking.now c.loop-word.marking marks in
-    let is : told ≡ traced_words_of (kinds_of u.types c.args.ty) =
-    c.traced_words-traced.ensures ∙ ap (λ (ts : List ObjectType). traced_words_of (kinds_of ts c.args.ty)) (sym c.requires.types) in
+    let is : told ≡ traced_words_of (declared_kinds u.types c.args.ty) =
+    c.traced_words-traced.ensures ∙ ap (λ (ts : List ObjectType). traced_words_of (declared_kinds ts c.args.ty)) (sym c.requires.types) in
     let grow : NotesGrow u.types v.bodies c.loop-word.notes c.trace_word.new.notes =
     subst (λ (ts : List ObjectType). NotesGrow ts v.bodies c.loop-word.notes c.trace_word.new.notes) types c.trace_word.ensures.notes in
     record {
@@ -92,7 +92,7 @@ returns-clause-strong g c =
     let told : List TracedWord = c.traced_words-traced.result.now in
     subst (λ (ts : List ObjectType). HasStrongMarked ts w c.args.place) c.requires.types
     (strong_done u w c.args.place c.args.ty told c.loop-word.notes c.bodies_lie_apart.ensures c.requires.body
-    (c.traced_words-traced.ensures ∙ ap (λ (ts : List ObjectType). traced_words_of (kinds_of ts c.args.ty)) (sym c.requires.types))
+    (c.traced_words-traced.ensures ∙ ap (λ (ts : List ObjectType). traced_words_of (declared_kinds ts c.args.ty)) (sym c.requires.types))
     (same_bodies u w c.args.marking.now c.loop-word.marking c.loop-word.invariant.marks)
     (λ word there. c.loop-word.invariant.done word (subst (λ l. Contains l word) (sym (take_all c.loop-word.word-index told (omega arith))) there)))
 
@@ -103,7 +103,7 @@ returns-clause-pairs g c fine =
     let told : List TracedWord = c.traced_words-traced.result.now in
     subst (λ (ts : List ObjectType). HasPairsNoted ts w c.args.place (Contains c.loop-word.notes.notes)) c.requires.types
     (pairs_done u w c.args.place c.args.ty told c.loop-word.notes c.bodies_lie_apart.ensures c.requires.body
-    (c.traced_words-traced.ensures ∙ ap (λ (ts : List ObjectType). traced_words_of (kinds_of ts c.args.ty)) (sym c.requires.types))
+    (c.traced_words-traced.ensures ∙ ap (λ (ts : List ObjectType). traced_words_of (declared_kinds ts c.args.ty)) (sym c.requires.types))
     (same_bodies u w c.args.marking.now c.loop-word.marking c.loop-word.invariant.marks)
     (λ word there. c.loop-word.invariant.done word (subst (λ l. Contains l word) (sym (take_all c.loop-word.word-index told (omega arith))) there)) fine)
 
@@ -117,8 +117,8 @@ pub returns-clause-hand : goal.returns-clause-hand
 returns-clause-hand g c =
     let u = c.args.seat.now in
     let told : List TracedWord = c.traced_words-traced.result.now in
-    let is : told ≡ traced_words_of (kinds_of u.types c.args.ty) =
-    c.traced_words-traced.ensures ∙ ap (λ (ts : List ObjectType). traced_words_of (kinds_of ts c.args.ty)) (sym c.requires.types) in
+    let is : told ≡ traced_words_of (declared_kinds u.types c.args.ty) =
+    c.traced_words-traced.ensures ∙ ap (λ (ts : List ObjectType). traced_words_of (declared_kinds ts c.args.ty)) (sym c.requires.types) in
     hand_at_end (traced_in u.types c.args.ty) c.loop-word.seat c.args.place c.args.ty c.loop-word.word-index
     (omega (arith, c.loop-word-test.false, told_length u.types c.args.ty told is)) c.loop-word.invariant.hand
 

@@ -4,7 +4,7 @@ use Rattle.std.specs.List.{Contains}
 use Rattle.std.specs.Prelude.{slice_set}
 use Rattle.std.proofs.lemmas.List.{get_or_default}
 use Rattle.marker_core.specs.Bodies.{holds}
-use Rattle.type_table.specs.Types.{kinds_of}
+use Rattle.type_table.specs.Types.{declared_kinds}
 use Rattle.type_table.specs.TracedWords.{traced_words_of}
 use Rattle.page_words.specs.Seat.{SeatView, is_grey_at}
 use Rattle.pair_notes.specs.declared.notes.Note.{Note}
@@ -69,7 +69,7 @@ own_notes : (g : given.Over) (c : goal.After-trace_fields g) (note : Note) → C
 own_notes g c note there =
     let has = c.in-Some.ensures.body in
     elim (noted_of_body c.claim.new.seat c.trace_fields.new.seat (get_or c.args.groups.now 0 c.index-groups-0.result) c.trace_fields.new.notes c.args.place
-    (traced_words_of (kinds_of c.args.types.now c.in-Some.ty)) has.0
+    (traced_words_of (declared_kinds c.args.types.now c.in-Some.ty)) has.0
     (subst (λ bs. Contains bs has.0) (sym (ap (λ (v : SeatView). v.bodies) c.in-Some.ensures.claimed.marks)) has.1) has.2 c.trace_fields.ensures.told note there) [
       | inl before ↦ inl (subst (λ (s : NotesState). Contains s.notes note)
           (get_or_default c.args.groups.now 0 c.index-groups-0.result no_notes c.requires.ground.own) before)

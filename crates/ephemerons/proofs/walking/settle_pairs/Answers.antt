@@ -2,7 +2,7 @@ use Rattle.std.proofs.Common.{◌≡◌, ℕ, ◌||◌, List, None, get_or, sym,
 use Rattle.std.specs.List.{Contains}
 use Rattle.std.proofs.lemmas.List.{get_or_default}
 use Rattle.gc_graph.specs.declared.kind.Kind.TheVariants.{Pair}
-use Rattle.type_table.specs.Types.{kinds_of, offsets_of_kind}
+use Rattle.type_table.specs.Types.{declared_kinds, offsets_of_kind}
 use Rattle.marker_core.specs.declared.states.Body.{Body}
 use Rattle.page_words.specs.BodyPlaces.{same_body}
 use Rattle.pair_notes.specs.BodyGraph.{HasType}
@@ -57,6 +57,6 @@ returns-clause-settled g c none offset has =
     let one : known.0 ≡ has.0 = same_body c.args.seat.now known.0 has.0 c.bodies_lie_apart.ensures known.1 first (known.2 ∙ sym has.2) in
     let ty : c.type_of-ty.result ≡ has.0.ty = sym known.3 ∙ ap (λ (b : Body). b.ty) one in
     let among : Contains told offset =
-    subst (λ l. Contains l offset) (sym (c.pair_words-pairs.ensures ∙ ap (λ t. offsets_of_kind Pair (kinds_of c.args.types.now t)) ty)) has.3 in
+    subst (λ l. Contains l offset) (sym (c.pair_words-pairs.ensures ∙ ap (λ t. offsets_of_kind Pair (declared_kinds c.args.types.now t)) ty)) has.3 in
     subst (λ o. IsSettled c.args.types.now c.loop-word.seat (note_of c.args.a o)) (get_or_default told among.0 0 offset among.1 ∙ among.2)
     (c.loop-word.invariant.settled none among.0 (omega (arith, among.1, c.loop-word-test.false)))

@@ -1,5 +1,5 @@
-use Rattle.callback_table.specs.Table.{kinds_of}
+use Rattle.callback_table.specs.Table.{callback_kinds}
 use Rattle.heap_objects.proofs.kinds.of.Given as goal
 
 abbrev pub ghost-chosen : goal.ghost-chosen
-ghost-chosen d a = kinds_of a.about.now
+ghost-chosen d a = callback_kinds a.about.now

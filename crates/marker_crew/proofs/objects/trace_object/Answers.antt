@@ -1,6 +1,6 @@
 use Rattle.std.proofs.Common.{◌≡◌, List, ap, ◌∙◌, arith}
 use Rattle.type_table.specs.declared.traced.TracedWord.{TracedWord}
-use Rattle.type_table.specs.Types.{kinds_of as kinds_in}
+use Rattle.type_table.specs.Types.{declared_kinds}
 use Rattle.type_table.specs.TracedWords.{traced_words_of}
 use Rattle.gc_graph.specs.State.{ObjectType}
 use Rattle.pair_notes.specs.HandPath.{hand_last, told_length}
@@ -15,7 +15,7 @@ trace_word-requires-clause-hand c =
     let types : List ObjectType = c.args.seat.now.types in
     let told : List TracedWord = c.traced_words-word-items.result.now in
     at_each_word types c.loop-word.seat c.loop-word.invariant.works.later.types c.args.place c.args.ty told
-    (c.traced_words-word-items.ensures ∙ ap (λ (ts : List ObjectType). traced_words_of (kinds_in ts c.args.ty)) c.requires.types) c.loop-word.word-index
+    (c.traced_words-word-items.ensures ∙ ap (λ (ts : List ObjectType). traced_words_of (declared_kinds ts c.args.ty)) c.requires.types) c.loop-word.word-index
     c.loop-word-test.true c.loop-word.invariant.hand
 
 pub loop-word-preserved : goal.loop-word-preserved
@@ -29,7 +29,7 @@ loop-word-preserved c =
           c.trace_word.ensures.works;
       taken = c.trace_word.ensures.taken ∙ c.loop-word.invariant.taken;
       hand = at_next_word types c.loop-word.seat c.loop-word.invariant.works.later.types c.args.place c.args.ty told
-          (c.traced_words-word-items.ensures ∙ ap (λ (ts : List ObjectType). traced_words_of (kinds_in ts c.args.ty)) c.requires.types) c.trace_word.new.seat
+          (c.traced_words-word-items.ensures ∙ ap (λ (ts : List ObjectType). traced_words_of (declared_kinds ts c.args.ty)) c.requires.types) c.trace_word.new.seat
           c.loop-word.word-index c.loop-word-test.true c.loop-word.invariant.hand c.trace_word.ensures.hand;
       count = c.trace_word.ensures.count ∙ c.loop-word.invariant.count;
     }
@@ -38,8 +38,8 @@ pub returns-clause-hand : goal.returns-clause-hand
 returns-clause-hand c =
     let types : List ObjectType = c.args.seat.now.types in
     let told : List TracedWord = c.traced_words-word-items.result.now in
-    let is : told ≡ traced_words_of (kinds_in types c.args.ty) =
-    c.traced_words-word-items.ensures ∙ ap (λ (ts : List ObjectType). traced_words_of (kinds_in ts c.args.ty)) c.requires.types in
+    let is : told ≡ traced_words_of (declared_kinds types c.args.ty) =
+    c.traced_words-word-items.ensures ∙ ap (λ (ts : List ObjectType). traced_words_of (declared_kinds ts c.args.ty)) c.requires.types in
     c.loop-word.invariant.hand
     ∙ hand_last (traced_in types c.args.ty) c.args.place c.args.ty c.loop-word.word-index
     (omega (arith, c.loop-word-test.false, told_length types c.args.ty told is))

@@ -4,7 +4,7 @@ use Rattle.std.proofs.lemmas.Bool.{cases_lt, le-leb}
 use Rattle.std.proofs.lemmas.List.{length-set, get_or-set_other}
 use Rattle.gc_graph.specs.declared.kind.Kind.{Kind}
 use Rattle.gc_graph.specs.Fields.{field_words}
-use Rattle.type_table.specs.Types.{kinds_of, kind_of, IsWordOf}
+use Rattle.type_table.specs.Types.{declared_kinds, kind_of, IsWordOfField}
 use Rattle.type_table.specs.Layouts.{kinds_of_words}
 use Rattle.marker_core.specs.Layout.{stop_at}
 use Rattle.page_words.specs.Seat.{SeatView}
@@ -55,7 +55,7 @@ loop-i-preserved c = record {
   front = λ b there at.
       let v : SeatView = c.args.seat.now in
       let i : ℕ = c.loop-i.i in
-      let kinds : List Kind = kinds_of v.types b.ty in
+      let kinds : List Kind = declared_kinds v.types b.ty in
       let is_head = c.header_at-ty.ensures.header b there at in
       let same = kinds_told v c.args.types.now b c.header_at-ty.result c.requires.types is_head in
       let size = size_told v c.args.types.now b c.header_at-ty.result c.size_of.result c.requires.types is_head c.size_of.ensures.size in
@@ -63,8 +63,8 @@ loop-i-preserved c = record {
       let low : i < field_words kinds = omega (arith, c.loop-i-test.true, c.min-count.ensures, size) in
       let now : Contains c.loop-i.seat.bodies b = subst (λ bs. Contains bs b) (ap (λ (x : SeatView). x.bodies) (sym c.loop-i.invariant.view)) there in
       let is : c.load-w.result ≡ get_or b.fields i 0 = c.load-w.ensures.word.field b i now (omega (arith, low, long)) (omega (arith, at)) in
-      let tells : (field : ℕ) → IsWordOf kinds field (2 + i) → c.kind_at.result ≡ kind_of kinds field =
-      subst (λ (ks : List Kind). (field : ℕ) → IsWordOf ks field (2 + i) → c.kind_at.result ≡ kind_of ks field) same c.kind_at.ensures in
+      let tells : (field : ℕ) → IsWordOfField kinds field (2 + i) → c.kind_at.result ≡ kind_of kinds field =
+      subst (λ (ks : List Kind). (field : ℕ) → IsWordOfField ks field (2 + i) → c.kind_at.result ≡ kind_of ks field) same c.kind_at.ensures in
       one_more_shown c.loop-i.into (shown_of_kinds (kinds_of_words kinds) b.fields) i c.shown.result (omega (arith, c.loop-i.invariant.long, c.loop-i-test.true, c.min-count.ensures))
       (omega (arith, low, shown_length (kinds_of_words kinds) b.fields (omega (arith, length-kinds_of_words kinds, long)), length-kinds_of_words kinds))
       (word_shown kinds b.fields i c.kind_at.result c.load-w.result c.shown.result c.fields_stand_apart.ensures low long tells is c.shown.ensures)
@@ -74,7 +74,7 @@ loop-i-preserved c = record {
 pub returns-clause-words : goal.returns-clause-words
 returns-clause-words c b there at =
     let v : SeatView = c.args.seat.now in
-    let kinds : List Kind = kinds_of v.types b.ty in
+    let kinds : List Kind = declared_kinds v.types b.ty in
     let xs : List ℕ = shown_of_kinds (kinds_of_words kinds) b.fields in
     let size = size_told v c.args.types.now b c.header_at-ty.result c.size_of.result c.requires.types (c.header_at-ty.ensures.header b there at) c.size_of.ensures.size in
     let long = long_fields v b c.bodies_lie_apart.ensures there (c.requires.typed b there) in

@@ -5,7 +5,7 @@ use Rattle.marker_core.specs.Matching.{IsWhole}
 use Rattle.page_words.specs.BodyPlaces.{whole_body}
 use Rattle.page_words.specs.Roles.{kind_lists}
 use Rattle.page_words.specs.Seat.{Heap, SeatView, unlooked}
-use Rattle.type_table.specs.Types.{kinds_of, offsets_of_kind}
+use Rattle.type_table.specs.Types.{declared_kinds, offsets_of_kind}
 use Rattle.weak_clearing.specs.Clearing.{MarkedHaveReferencesOf}
 use Rattle.weak_clearing.specs.Steps.{kind_of_handles, block_cleared}
 use Rattle.weak_clearing.proofs.Looking.{looks_same, looks_on, looks_from}
@@ -49,5 +49,5 @@ returns-clause-cleared c =
 pub returns-then-not-are_in-clause-cleared : goal.returns-then-not-are_in-clause-cleared
 returns-then-not-are_in-clause-cleared c =
     ap unlooked (none_cleared c.args.handles c.args.seat.now c.requires.references
-    (subst (λ (ts : List ObjectType). (ty : ℕ) → ty < length ts → offsets_of_kind (kind_of_handles c.args.handles) (kinds_of ts ty) ≡ []) c.requires.types
+    (subst (λ (ts : List ObjectType). (ty : ℕ) → ty < length ts → offsets_of_kind (kind_of_handles c.args.handles) (declared_kinds ts ty) ≡ []) c.requires.types
     (c.are_in.ensures.none c.if-not-are_in.true)))

@@ -1,7 +1,7 @@
 use Rattle.std.proofs.Common.{◌≡◌, ℕ, List, get_or, take, arith, refl, ap, sym, ◌∙◌}
 use Rattle.std.proofs.lemmas.List.{take_all, take_more}
 use Rattle.gc_graph.specs.State.{ObjectType}
-use Rattle.type_table.specs.Types.{kinds_of, offsets_of_kind}
+use Rattle.type_table.specs.Types.{declared_kinds, offsets_of_kind}
 use Rattle.page_words.specs.Seat.{SeatView, unlooked}
 use Rattle.weak_clearing.specs.declared.weak_handles.WeakHandles.{WeakHandles}
 use Rattle.weak_clearing.specs.Steps.{HasHandle, kind_of_handles, handle_cleared}
@@ -16,8 +16,8 @@ loop-word-init c = record {
 }
 
 told : (handles : WeakHandles) (types : List ObjectType) (v : SeatView) (ty : ℕ) (words : List ℕ) → types ≡ v.types
-    → words ≡ offsets_of_kind (kind_of_handles handles) (kinds_of types ty) → words ≡ offsets_of_kind (kind_of_handles handles) (kinds_of v.types ty)
-told handles types v ty words same is = is ∙ ap (λ ts. offsets_of_kind (kind_of_handles handles) (kinds_of ts ty)) same
+    → words ≡ offsets_of_kind (kind_of_handles handles) (declared_kinds types ty) → words ≡ offsets_of_kind (kind_of_handles handles) (declared_kinds v.types ty)
+told handles types v ty words same is = is ∙ ap (λ ts. offsets_of_kind (kind_of_handles handles) (declared_kinds ts ty)) same
 
 pub clear_handle-requires-clause-handle : goal.clear_handle-requires-clause-handle
 clear_handle-requires-clause-handle c =

@@ -1,6 +1,6 @@
 use Rattle.std.proofs.Common.{rules, ◌≡◌, ◌+◌, ◌-◌, ◌<◌, ◌∙◌, All, length, sym, ap, subst, arith}
 use Rattle.callback_table.specs.Registry.{RegistryView, IsRegistered, entries_left}
-use Rattle.callback_table.specs.Table.{kinds_of}
+use Rattle.callback_table.specs.Table.{callback_kinds}
 use Rattle.callback_table.proofs.LastToFirst.{registered_now, one_run, one_kept, left_at_end}
 use Rattle.callback_table.proofs.registry.Registry.run_dead.Goals as goal
 
@@ -9,7 +9,7 @@ run_if_dead-requires-clause-registered g c =
     let up : c.loop-i.i ≡ c.loop-i.i - 1 + 1 = omega arith in
     let within : c.loop-i.i - 1 < length c.self.inside.entries.items = search rules in
     registered_now _ _ _ _ _ _ _ _ _ _ up c.loop-i.invariant.run within c.index-entry.ensures _
-    (subst (λ (view : RegistryView). All (IsRegistered (g.B.Bodies.nodes c.args.bodies.now) (length (kinds_of c.args.table.now))) view.entries) (sym c.self.view_is) c.requires.registered)
+    (subst (λ (view : RegistryView). All (IsRegistered (g.B.Bodies.nodes c.args.bodies.now) (length (callback_kinds c.args.table.now))) view.entries) (sym c.self.view_is) c.requires.registered)
 
 pub loop-i-preserved-then-run_if_dead : goal.loop-i-preserved-then-run_if_dead
 loop-i-preserved-then-run_if_dead g c =

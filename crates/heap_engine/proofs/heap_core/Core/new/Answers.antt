@@ -1,7 +1,7 @@
 use Rattle.std.proofs.Common.{◌≡◌, ◌≤◌, ◌++◌, length, sym, ap, ◌∙◌, subst, arith}
 use Rattle.std.proofs.lemmas.Bool.{true≢false}
 use Rattle.gc_graph.specs.State.{Shape}
-use Rattle.callback_table.specs.Table.{kinds_of}
+use Rattle.callback_table.specs.Table.{callback_kinds}
 use Rattle.marker_core.specs.Bodies.{holds}
 use Rattle.cross_thread_region.specs.Histories.{entries_of}
 use Rattle.page_words.specs.Seat.{Heap}
@@ -19,10 +19,10 @@ use Rattle.heap_engine.proofs.heap_core.Core.new.Goals as goal
 -- the parts are those of an empty heap
 are_empty : (d : given.Over) (c : goal.After-empty d)
     → (let parts : Parts = record { objects = c.in_ok-objects.objects; handles = c.in_ok-handles.handles; cycle = c.new-cycle.result } in
-    parts ≡ empty_parts c.in_ok-objects.objects.seat.heap (record { pages = c.args.config.pages; page_words = c.args.config.page_words }) c.args.config.markers c.args.types (kinds_of c.args.callbacks.now))
+    parts ≡ empty_parts c.in_ok-objects.objects.seat.heap (record { pages = c.args.config.pages; page_words = c.args.config.page_words }) c.args.config.markers c.args.types (callback_kinds c.args.callbacks.now))
 are_empty d c =
     parts_empty (record { objects = c.in_ok-objects.objects; handles = c.in_ok-handles.handles; cycle = c.new-cycle.result }) c.in_ok-objects.objects.seat.heap
-    (record { pages = c.args.config.pages; page_words = c.args.config.page_words }) c.args.config.markers c.args.types (kinds_of c.args.callbacks.now) c.in_ok-objects.ensures.view c.in_ok-handles.ensures
+    (record { pages = c.args.config.pages; page_words = c.args.config.page_words }) c.args.config.markers c.args.types (callback_kinds c.args.callbacks.now) c.in_ok-objects.ensures.view c.in_ok-handles.ensures
     c.new-cycle.ensures
 
 pub invariant_of-result : goal.invariant_of-result
@@ -31,16 +31,16 @@ invariant_of-result d c =
     let parts : Parts = record { objects = c.in_ok-objects.objects; handles = c.in_ok-handles.handles; cycle = c.new-cycle.result } in
     let heap : Heap = c.in_ok-objects.objects.seat.heap in
     record {
-      ready = λ opened. ready_empty parts heap shape c.args.config.markers c.args.types (kinds_of c.args.callbacks.now) c.empty_is_valid.ensures c.requires.called (are_empty d c);
-      manned = λ opened. manned_empty parts heap shape c.args.config.markers c.args.types (kinds_of c.args.callbacks.now) (are_empty d c);
+      ready = λ opened. ready_empty parts heap shape c.args.config.markers c.args.types (callback_kinds c.args.callbacks.now) c.empty_is_valid.ensures c.requires.called (are_empty d c);
+      manned = λ opened. manned_empty parts heap shape c.args.config.markers c.args.types (callback_kinds c.args.callbacks.now) (are_empty d c);
       joined_at_last = λ closed. absurd (true≢false (sym closed));
       most = subst (λ (s : Parts). s.cycle.rest.ordinal ≤ 1000000) (sym (are_empty d c)) (omega arith);
       made = subst (λ (s : Parts). length s.objects.nodes ≤ s.cycle.rest.ordinal) (sym (are_empty d c)) (omega arith);
-      shared = shared_empty parts heap shape c.args.config.markers c.args.types (kinds_of c.args.callbacks.now) c.in_ok-shared.shared (are_empty d c) c.in_ok-shared.ensures;
+      shared = shared_empty parts heap shape c.args.config.markers c.args.types (callback_kinds c.args.callbacks.now) c.in_ok-shared.shared (are_empty d c) c.in_ok-shared.ensures;
       replies = told_empty c.in_ok-shared.shared c.in_ok-shared.ensures;
       totals = no_totals c.empty.result.value c.in_ok-shared.shared c.in_ok-shared.ensures;
       joined = λ telling. absurd (true≢false (sym telling ∙ ap (λ (h : Shared). h.telling) c.in_ok-shared.ensures));
-      counted = counted_empty parts heap shape c.args.config.markers c.args.types (kinds_of c.args.callbacks.now) (are_empty d c);
+      counted = counted_empty parts heap shape c.args.config.markers c.args.types (callback_kinds c.args.callbacks.now) (are_empty d c);
       told = subst (λ (o : Printed). IsOutcome o c.new-cycle.result.ran) (sym c.in_ok-outcome.ensures) (record { ran_some = λ runs. cc; last_plain = tt });
       room = omega (arith, ap (λ (o : Printed). o.room) c.in_ok-outcome.ensures, c.word_count.ensures);
     }

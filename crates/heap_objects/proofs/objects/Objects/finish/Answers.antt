@@ -24,7 +24,7 @@ use Rattle.atomic_pause.specs.WeakNodes.{length-after}
 use Rattle.marker_crew.specs.Notes.{NotesState, group_at, refusals_in}
 use Rattle.mark_worklist.specs.Shares.{ShareState}
 use Rattle.heap_objects.specs.declared.marking.Grey.{Grey}
-use Rattle.callback_table.specs.Table.{kinds_of}
+use Rattle.callback_table.specs.Table.{callback_kinds}
 use Rattle.gc_graph.specs.May.{members}
 use Rattle.atomic_pause.specs.Pausing.{IsMayWithin, IsPaused, hits_in, shared_roots}
 use Rattle.heap_objects.specs.Marks.{IsMayOf}
@@ -171,7 +171,7 @@ invariant_of-self g c =
 
 pub returns-clause-paused : goal.returns-clause-paused
 returns-clause-paused g c =
-    let kinds : kinds_of c.args.callbacks.now ≡ c.self.inside.kinds.value = rw (← c.self.view_is) at c.requires.kinds in
+    let kinds : callback_kinds c.args.callbacks.now ≡ c.self.inside.kinds.value = rw (← c.self.view_is) at c.requires.kinds in
     rw (← c.self.view_is) (λ slots may named marks.
     subst (λ ks. IsPaused ks (slot_targets slots ++ shared_roots c.args.region.now ++ hits_in c.args.precise c.self.inside.nodes.value c.args.stack.now)
     (members may ++ shared_roots c.args.region.now ++ hits_in c.args.precise c.self.inside.nodes.value c.args.stack.now) c.self.inside.nodes.value c.pause-result.new.parts.1.0.value c.args.registry.now c.pause-result.new.parts.1.1.1.1.0)

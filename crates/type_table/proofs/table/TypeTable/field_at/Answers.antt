@@ -4,19 +4,19 @@ use Rattle.gc_graph.specs.declared.kind.Kind.TheVariants.{Strong, Plain}
 use Rattle.gc_graph.specs.State.{ObjectType}
 use Rattle.std.proofs.lemmas.List.{get_or_default}
 use Rattle.type_table.specs.Layouts.{LayoutState}
-use Rattle.type_table.specs.Types.{kinds_of}
+use Rattle.type_table.specs.Types.{declared_kinds}
 use Rattle.type_table.proofs.Offsets.{words_few, offset_at, offsets_many}
 use Rattle.type_table.proofs.table.TypeTable.field_at.Goals as goal
 
 pub offset-requires : goal.offset-requires
 offset-requires c =
-    let kinds : List Kind = kinds_of c.args.self.now c.args.ty in
+    let kinds : List Kind = declared_kinds c.args.self.now c.args.ty in
     let same : c.fields-kinds.result.now ≡ kinds = c.fields-kinds.ensures ∙ ap (λ (t : ObjectType). t.kinds) c.decl.ensures.value in
     omega (arith, ap length same, ap (λ (l : LayoutState). length l.offsets) c.layout.ensures.value, offsets_many kinds)
 
 pub returns-then-field-count : goal.returns-then-field-count
 returns-then-field-count c =
-    let kinds : List Kind = kinds_of c.args.self.now c.args.ty in
+    let kinds : List Kind = declared_kinds c.args.self.now c.args.ty in
     let same : c.fields-kinds.result.now ≡ kinds = c.fields-kinds.ensures ∙ ap (λ (t : ObjectType). t.kinds) c.decl.ensures.value in
     let low : c.args.field < length kinds = omega (arith, ap length same) in
     record {
@@ -27,5 +27,5 @@ returns-then-field-count c =
 
 pub overflow_add-result : goal.overflow_add-result
 overflow_add-result c =
-    let kinds : List Kind = kinds_of c.args.self.now c.args.ty in
+    let kinds : List Kind = declared_kinds c.args.self.now c.args.ty in
     omega (arith, words_few kinds, c.decl.ensures.narrow, c.size_of.ensures)
