@@ -13,7 +13,7 @@ use Rattle.gc_graph.specs.NodeNumbers.{there_below}
 use Rattle.gc_graph.specs.Members.{any_member, any_from, below_ranged, holds_from, in_from_holds}
 use Rattle.gc_graph.specs.Valid.{region_targets}
 use Rattle.cross_thread_region.specs.declared.chronicle.PlacedEntry.{PlacedEntry}
-use Rattle.cross_thread_region.specs.Calls.{RegionView, PassView, history_of}
+use Rattle.cross_thread_region.specs.Calls.{RegionView, PassView, free_history}
 use Rattle.cross_thread_region.specs.Histories.{slots_of}
 use Rattle.cross_thread_region.specs.PlacedNodes.{strong_target_is_target, strong_target_placed, strong_place_named}
 use Rattle.marker_core.specs.declared.states.Body.{Body}
@@ -119,13 +119,13 @@ either_at nodes xs ys x y first second = record {
 }
 
 -- what the region's strong slots name
-shared_at : (nodes : List Node) (region : RegionView) (pass : PassView) → IsPausable nodes region pass → AreRootsAt nodes (shared_roots region) (IsSharedPlace (history_of region))
+shared_at : (nodes : List Node) (region : RegionView) (pass : PassView) → IsPausable nodes region pass → AreRootsAt nodes (shared_roots region) (IsSharedPlace (free_history region))
 shared_at nodes region pass may = record {
-  live = λ n is. All-contains (IsLive nodes) (region_targets (slots_of (history_of region))) n may.live
-      (strong_target_is_target (slots_of (history_of region)) n (in_from_holds (shared_roots region) n is));
-  placed = λ n is. strong_target_placed (place_of nodes) (history_of region) n may.placed (in_from_holds (shared_roots region) n is);
+  live = λ n is. All-contains (IsLive nodes) (region_targets (slots_of (free_history region))) n may.live
+      (strong_target_is_target (slots_of (free_history region)) n (in_from_holds (shared_roots region) n is));
+  placed = λ n is. strong_target_placed (place_of nodes) (free_history region) n may.placed (in_from_holds (shared_roots region) n is);
   named = λ p is.
-      let w = strong_place_named (place_of nodes) (history_of region) is.0 p may.placed is.1 in
+      let w = strong_place_named (place_of nodes) (free_history region) is.0 p may.placed is.1 in
       (w.0, holds_from (shared_roots region) w.0 w.1, w.2);
 }
 
@@ -147,11 +147,11 @@ scanned_at nodes false stack v same none held = record {
 
 -- what the pause finds beside what the owner's slots name; a pause holds the history
 pub others_at : (nodes : List Node) (region : RegionView) (pass : PassView) (history : List PlacedEntry) (precise : Bool) (stack : List ℕ) (v : SeatView)
-    → IsPausable nodes region pass → history ≡ history_of region → v.dead ≡ [] → IsHeld nodes v
+    → IsPausable nodes region pass → history ≡ free_history region → v.dead ≡ [] → IsHeld nodes v
     → AreRootsAt nodes (other_roots nodes region precise stack) (IsOtherRoot history precise v.bodies stack)
 others_at nodes region pass history precise stack v may same none held =
     subst (λ h. AreRootsAt nodes (other_roots nodes region precise stack) (IsOtherRoot h precise v.bodies stack)) (sym same)
-    (either_at nodes (shared_roots region) (hits_in precise nodes stack) (IsSharedPlace (history_of region)) (IsScanned precise v.bodies stack)
+    (either_at nodes (shared_roots region) (hits_in precise nodes stack) (IsSharedPlace (free_history region)) (IsScanned precise v.bodies stack)
     (shared_at nodes region pass may) (scanned_at nodes precise stack v held.bodies none held))
 
 -- with the slots and the others for roots

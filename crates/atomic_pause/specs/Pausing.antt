@@ -11,7 +11,7 @@ use Rattle.gc_graph.specs.Valid.{AreLive, region_targets}
 use Rattle.gc_graph.specs.Pause.{condemn, dying_slots, run_order, prefinalised}
 use Rattle.gc_graph.specs.History.{NamesWeakSlots}
 use Rattle.gc_graph.specs.ActionLaw.{HaveStayed}
-use Rattle.cross_thread_region.specs.Calls.{RegionView, PassView, IsReady, history_of, given_back, with_own}
+use Rattle.cross_thread_region.specs.Calls.{RegionView, PassView, IsPassReady, free_history, given_back, history_with_own}
 use Rattle.cross_thread_region.specs.Histories.{slots_of, is_started, IsPlacedBy}
 use Rattle.callback_table.specs.Registry.{registrations_of, pairs_run, entries_left, RegistryView}
 use Rattle.marker_core.specs.Bodies.{holds}
@@ -69,24 +69,24 @@ IsPlaceOfKept old new p = (m : ℕ) × (place_of old m ≡ p) × IsKeptOrKey old
 
 -- the nodes that the region's strong slots name
 abbrev pub shared_roots : RegionView → List ℕ
-shared_roots region = strong_region_targets (slots_of (history_of region))
+shared_roots region = strong_region_targets (slots_of (free_history region))
 
 -- the owner may pause with the region and this pass, which is the first one: a collection was started, and each slot that isn't
 -- null names a live node and has its place
 pub record IsPausable (nodes : List Node) (region : RegionView) (pass : PassView) : Type 0 where
-  pub ready : IsReady region pass
+  pub ready : IsPassReady region pass
   pub first : pass.number ≡ 0
-  pub started : is_started (history_of region) ≡ true
-  pub live : AreLive nodes (region_targets (slots_of (history_of region)))
-  pub placed : IsPlacedBy (place_of nodes) (history_of region)
+  pub started : is_started (free_history region) ≡ true
+  pub live : AreLive nodes (region_targets (slots_of (free_history region)))
+  pub placed : IsPlacedBy (place_of nodes) (free_history region)
 
 -- the number that stands for the weak slots that name one of the dead nodes
 abbrev pub dying_in : List Node → RegionView → ℕ
-dying_in nodes region = dying_slots nodes (slots_of (history_of region))
+dying_in nodes region = dying_slots nodes (slots_of (free_history region))
 
 -- the pause's entry was made, which clears exactly the weak slots that name one of the dead nodes, and the pass has seen it
 pub record IsPausedRegion (nodes : List Node) (old : RegionView) (pass : PassView) (new : RegionView) (passed : PassView) : Type 0 where
-  pub region : new ≡ given_back old (with_own (history_of old) (O.Pause (dying_in nodes old)) 0)
-  pub seen : passed ≡ record pass { seen = history_of new }
-  pub ready : IsReady new passed
-  pub weak : NamesWeakSlots (dying_in nodes old) (slots_of (history_of old))
+  pub region : new ≡ given_back old (history_with_own (free_history old) (O.Pause (dying_in nodes old)) 0)
+  pub seen : passed ≡ record pass { seen = free_history new }
+  pub ready : IsPassReady new passed
+  pub weak : NamesWeakSlots (dying_in nodes old) (slots_of (free_history old))

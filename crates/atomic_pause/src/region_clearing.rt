@@ -10,9 +10,9 @@ ghost use Rattle.gc_graph.specs.Pause.{clear_slot};
 ghost use Rattle.marker_core.specs.Bodies.{IsPlace, holds};
 ghost use Rattle.page_words.specs.Seat.{OnlyLooked};
 ghost use Rattle.weak_clearing.specs.Space.{IsSeatOf};
-ghost use Rattle.cross_thread_region.specs.Histories.{slots_of, told, weak_place};
-ghost use Rattle.cross_thread_region.specs.Calls.{Begins, IsReady, given_back, history_of};
-ghost use Rattle.cross_thread_region.specs.Pauses.{paused, dying_of};
+ghost use Rattle.cross_thread_region.specs.Histories.{slots_of, told_of_slot, weak_place};
+ghost use Rattle.cross_thread_region.specs.Calls.{Begins, IsPassReady, given_back, free_history};
+ghost use Rattle.cross_thread_region.specs.Pauses.{history_paused, dying_of};
 
 use crate::roots::SHARED;
 use cross_thread_region::{HeldRegion, Pass, Region};
@@ -35,9 +35,9 @@ pub fn clear_region(
     requires first { pass.old.number ≡ 0 }
     requires places { (x p : ℕ) → weak_place held x ≡ Some p → IsPlace seat.old.bodies p }
     ensures region { region.new ≡ given_back region.old
-        (paused pass.old held (dying_of (λ a. not (holds seat.old.marked a)) held)) }
-    ensures seen { pass.new ≡ record pass.old { seen = history_of region.new } }
-    ensures ready { IsReady region.new pass.new }
+        (history_paused pass.old held (dying_of (λ a. not (holds seat.old.marked a)) held)) }
+    ensures seen { pass.new ≡ record pass.old { seen = free_history region.new } }
+    ensures ready { IsPassReady region.new pass.new }
     ensures weak { NamesWeakSlots (dying_of (λ a. not (holds seat.old.marked a)) held)
         (slots_of held) }
     ensures view { OnlyLooked seat.old seat.new }
@@ -77,7 +77,8 @@ fn dead_place(space: &Space, seat: &mut MutatorSeat, held: &HeldRegion, i: u32) 
     requires off { seat.old.on ≡ false }
     requires slot { i < 32 }
     requires place { ForSome (weak_place held.now i) (IsPlace seat.old.bodies) }
-    ensures dead { result ≡ told (clear_slot (holds seat.old.marked) (weak_place held.now i)) }
+    ensures dead { result
+        ≡ told_of_slot (clear_slot (holds seat.old.marked) (weak_place held.now i)) }
     ensures view { OnlyLooked seat.old seat.new }
     ensures looked { StartsWith seat.new.looked seat.old.looked }
 {

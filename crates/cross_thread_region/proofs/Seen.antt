@@ -8,7 +8,7 @@ use Rattle.gc_graph.specs.declared.region.Reply.{Reply}
 use Rattle.gc_graph.specs.declared.region.Reply.TheVariants as R
 use Rattle.cross_thread_region.specs.declared.chronicle.PlacedEntry.{PlacedEntry}
 use Rattle.cross_thread_region.specs.Histories.{entries_of, is_started}
-use Rattle.cross_thread_region.specs.Calls.{RegionView, PassView, IsAnswered, history_of, entry_of}
+use Rattle.cross_thread_region.specs.Calls.{RegionView, PassView, IsCallAnswered, free_history, placed_entry_of}
 use Rattle.cross_thread_region.specs.NextEntries.{started_next}
 use Rattle.cross_thread_region.specs.Contents.{IsCallWithin}
 
@@ -21,11 +21,11 @@ seen_entry (s ∷ seen) (x ∷ history) zero entry e l h = sym (ap (λ xs. Some 
 seen_entry (s ∷ seen) (x ∷ history) (suc i) entry e l h = seen_entry seen history i entry (ap (drop 1) e) (omega (arith, l)) h
 
 -- a start was made
-pub start_entered : (old : RegionView) (pass : PassView) (reply : Reply) (new : RegionView) (passed : PassView) → IsAnswered old pass O.Start 0 reply new passed
-    → reply ≡ R.Done → is_started (history_of new) ≡ true
+pub start_entered : (old : RegionView) (pass : PassView) (reply : Reply) (new : RegionView) (passed : PassView) → IsCallAnswered old pass O.Start 0 reply new passed
+    → reply ≡ R.Done → is_started (free_history new) ≡ true
 start_entered old pass reply new passed call done = elim call [
   | inl r ↦ absurd (cc (r.reply_is, done))
-  | inr e ↦ ap (λ (v : RegionView). is_started (history_of v)) e.region ∙ started_next (history_of old) (entry_of pass (history_of old) O.Start 0)
+  | inr e ↦ ap (λ (v : RegionView). is_started (free_history v)) e.region ∙ started_next (free_history old) (placed_entry_of pass (free_history old) O.Start 0)
 ]
 
 -- a slot of the region is one of the 32 that are kept

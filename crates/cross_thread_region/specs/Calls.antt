@@ -32,8 +32,8 @@ history_in None = []
 history_in (Some history) = history
 
 -- the history of a region that no pause holds
-abbrev pub history_of : RegionView → List PlacedEntry
-history_of region = history_in region.inside
+abbrev pub free_history : RegionView → List PlacedEntry
+free_history region = history_in region.inside
 
 -- these entries are the first ones of the history
 abbrev pub Begins : List PlacedEntry → List PlacedEntry → Type 0
@@ -41,10 +41,10 @@ Begins seen history = take (length seen) history ≡ seen
 
 -- a pass is one of the region: what it has seen begins the history
 abbrev pub IsPassOf : RegionView → PassView → Type 0
-IsPassOf region pass = Begins pass.seen (history_of region)
+IsPassOf region pass = Begins pass.seen (free_history region)
 
 -- a call may be made with the pass: it is one of the region, whose history no pause holds
-pub record IsReady (region : RegionView) (pass : PassView) : Type 0 where
+pub record IsPassReady (region : RegionView) (pass : PassView) : Type 0 where
   pub free : IsSome region.inside
   pub is_pass : IsPassOf region pass
 
@@ -59,18 +59,18 @@ given_back region history = record region { inside = Some history }
 -- ---- calls
 
 -- the entry of a call: the number of its pass, and the reply that a region of one thread gives at this point of the history
-abbrev pub entry_of : PassView → List PlacedEntry → Op → ℕ → PlacedEntry
-entry_of pass history op place = record {
+abbrev pub placed_entry_of : PassView → List PlacedEntry → Op → ℕ → PlacedEntry
+placed_entry_of pass history op place = record {
   entry = record { thread = pass.number; op = op; reply = reply_of (slots_of history) op };
   place = place;
 }
 
 -- the history with the next entry of the first pass
-abbrev pub with_own : List PlacedEntry → Op → ℕ → List PlacedEntry
-with_own history op place = history ++ entry_of first_pass history op place ∷ []
+abbrev pub history_with_own : List PlacedEntry → Op → ℕ → List PlacedEntry
+history_with_own history op place = history ++ placed_entry_of first_pass history op place ∷ []
 
 -- memory was wanting, and nothing changed
-pub record IsRefused (old : RegionView) (pass : PassView) (reply : Reply) (new : RegionView) (passed : PassView) : Type 0 where
+pub record IsCallRefused (old : RegionView) (pass : PassView) (reply : Reply) (new : RegionView) (passed : PassView) : Type 0 where
   pub reply_is : reply ≡ R.NoMemory
   pub region : new ≡ old
   pub pass_stays : passed ≡ pass
@@ -78,19 +78,19 @@ pub record IsRefused (old : RegionView) (pass : PassView) (reply : Reply) (new :
 -- the entry is the next one of the history, which begins with what the pass had seen and stays legal, and the pass has seen it all
 pub record IsEntered (old : RegionView) (pass : PassView) (placed : PlacedEntry) (reply : Reply) (new : RegionView) (passed : PassView) : Type 0 where
   pub reply_is : reply ≡ placed.entry.reply
-  pub region : new ≡ given_back old (history_of old ++ placed ∷ [])
-  pub begins : Begins pass.seen (history_of new)
-  pub seen : passed ≡ record pass { seen = history_of new }
-  pub legal : IsLegal (entries_of (history_of new))
+  pub region : new ≡ given_back old (free_history old ++ placed ∷ [])
+  pub begins : Begins pass.seen (free_history new)
+  pub seen : passed ≡ record pass { seen = free_history new }
+  pub legal : IsLegal (entries_of (free_history new))
 
 -- a call makes its entry, or memory was wanting
-abbrev pub IsAnswered : RegionView → PassView → Op → ℕ → Reply → RegionView → PassView → Type 0
-IsAnswered old pass op place reply new passed =
-    IsRefused old pass reply new passed ⊎ IsEntered old pass (entry_of pass (history_of old) op place) reply new passed
+abbrev pub IsCallAnswered : RegionView → PassView → Op → ℕ → Reply → RegionView → PassView → Type 0
+IsCallAnswered old pass op place reply new passed =
+    IsCallRefused old pass reply new passed ⊎ IsEntered old pass (placed_entry_of pass (free_history old) op place) reply new passed
 
 -- what a call leaves as it was: the next one may be made with the pass, which keeps its number, and there are as many slots
 pub record StaysReady (old : RegionView) (pass : PassView) (new : RegionView) (passed : PassView) : Type 0 where
-  pub ready : IsReady new passed
+  pub ready : IsPassReady new passed
   pub slots : new.slots ≡ old.slots
   pub number : passed.number ≡ pass.number
   pub out : passed.out ≡ pass.out
@@ -106,8 +106,8 @@ abbrev pub longer : List PlacedEntry → List PlacedEntry → List PlacedEntry
 longer seen other = if nat_lt (length seen) (length other) then other else seen
 
 -- the first pass after another one was joined to it: it has seen what either has, and the other one's number is no longer out
-abbrev pub joined_with : PassView → PassView → PassView
-joined_with pass other = record pass {
+abbrev pub pass_joined_with : PassView → PassView → PassView
+pass_joined_with pass other = record pass {
   seen = longer pass.seen other.seen;
   out = filter (λ number. not (number == other.number)) pass.out;
 }

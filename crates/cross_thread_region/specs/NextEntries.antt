@@ -8,7 +8,7 @@ use Rattle.gc_graph.specs.History.{region_after, replayed, reply_of, started_aft
 use Rattle.gc_graph.specs.Replays.{replayed-append, started-append, legal-append, replayed_length}
 use Rattle.cross_thread_region.specs.declared.chronicle.PlacedEntry.{PlacedEntry}
 use Rattle.cross_thread_region.specs.Calls.{Begins, longer}
-use Rattle.cross_thread_region.specs.Histories.{entries_of, slots_of, places_of, places_with, places_through, is_started}
+use Rattle.cross_thread_region.specs.Histories.{entries_of, slots_of, places_in_history, places_with, places_through, is_started}
 
 places_on : (places : List ℕ) (history : List PlacedEntry) (placed : PlacedEntry)
     → places_through places (history ++ placed ∷ []) ≡ places_with (places_through places history) placed.entry.op placed.place
@@ -24,7 +24,7 @@ slots_next history placed = ap (replayed (replicate 32 Vacant)) (entries_on hist
 
 -- the places after the next entry
 pub places_next : (history : List PlacedEntry) (placed : PlacedEntry)
-    → places_of (history ++ placed ∷ []) ≡ places_with (places_of history) placed.entry.op placed.place
+    → places_in_history (history ++ placed ∷ []) ≡ places_with (places_in_history history) placed.entry.op placed.place
 places_next history placed = places_on (replicate 32 0) history placed
 
 -- the next entry starts a collection, ends one, or neither

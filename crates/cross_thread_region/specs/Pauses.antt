@@ -4,11 +4,11 @@ use Rattle.gc_graph.specs.declared.region.Op.TheVariants as O
 use Rattle.gc_graph.specs.Pause.{mask_of}
 use Rattle.cross_thread_region.specs.declared.chronicle.PlacedEntry.{PlacedEntry}
 use Rattle.cross_thread_region.specs.Histories.{weak_places}
-use Rattle.cross_thread_region.specs.Calls.{PassView, entry_of}
+use Rattle.cross_thread_region.specs.Calls.{PassView, placed_entry_of}
 
 -- the history after a pause that cleared the slots for which this number stands
-abbrev pub paused : PassView → List PlacedEntry → ℕ → List PlacedEntry
-paused pass history cleared = history ++ entry_of pass history (O.Pause cleared) 0 ∷ []
+abbrev pub history_paused : PassView → List PlacedEntry → ℕ → List PlacedEntry
+history_paused pass history cleared = history ++ placed_entry_of pass history (O.Pause cleared) 0 ∷ []
 
 -- whether a slot's place is one that the rule calls dead
 abbrev pub is_dying : (ℕ → Bool) → Option ℕ → Bool

@@ -8,7 +8,7 @@ ghost use Rattle.gc_graph.specs.History.{IsLegal, NamesWeakSlots};
 ghost use Rattle.persistent_slots.specs.Clearing.{MayBeAsked, AnswersBy, ClearsInTurn};
 ghost use Rattle.cross_thread_region.specs.Histories.{entries_of, slots_of, is_started};
 ghost use Rattle.cross_thread_region.specs.Histories.{place_at, strong_place, weak_places};
-ghost use Rattle.cross_thread_region.specs.Histories.{strong_told, told};
+ghost use Rattle.cross_thread_region.specs.Histories.{start_told, told_of_slot};
 ghost use Rattle.cross_thread_region.specs.WeakReads.{weak_read_at};
 ghost use Rattle.cross_thread_region.specs.Pauses.{dying_of};
 ghost use Rattle.cross_thread_region.specs.Contents.{MayAdd, IsCallWithin, placed_entry};
@@ -45,14 +45,14 @@ pub(crate) struct Chronicle {
 
 impl Model for Chronicle {
     ghost use Rattle.std.specs.Prelude.{◌≡◌, length, vec_capacity};
-    ghost use Rattle.cross_thread_region.specs.Contents.{ChronicleView, IsKept, AreNoted};
+    ghost use Rattle.cross_thread_region.specs.Contents.{ChronicleView, ContentsAreKept, AreNoted};
 
     ghost Value = { ChronicleView };
 
     ghost view = { λ c. record { history = c.history.items; asked = c.asked } };
 
     ghost invariant = { λ c.
-        IsKept c.slots.items c.places.items c.history.items (vec_capacity c.history)
+        ContentsAreKept c.slots.items c.places.items c.history.items (vec_capacity c.history)
         × (length c.asked ≡ 32)
         × AreNoted c.reads.items c.history.items (vec_capacity c.reads) };
 }
@@ -121,7 +121,7 @@ impl Chronicle {
     /// Writes down what a start tells of the strong slots.
     pub fn tell_strong(&self, strong: &mut [u32])
         requires { length strong.old ≤ 32 }
-        ensures { strong.new ≡ strong_told self.now.history (length strong.old) }
+        ensures { strong.new ≡ start_told self.now.history (length strong.old) }
     {
         for i in 0..strong.len() {
             strong[i] = self.told(i as u32);
@@ -130,7 +130,7 @@ impl Chronicle {
 
     fn told(&self, slot: u32) -> u32
         requires { slot < 32 }
-        ensures { result ≡ told (strong_place self.now.history slot) }
+        ensures { result ≡ told_of_slot (strong_place self.now.history slot) }
     {
         match self.strong_place(slot) {
             Some(place) => place + 1,

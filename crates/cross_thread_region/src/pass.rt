@@ -1,7 +1,7 @@
 // Passes: who makes entries, and how much of the history it has seen.
 
 ghost use Rattle.std.specs.Prelude.{◌≡◌, ◌∷◌, ◌==◌, [], filter, length, not};
-ghost use Rattle.cross_thread_region.specs.Calls.{first_pass, split_off, joined_with};
+ghost use Rattle.cross_thread_region.specs.Calls.{first_pass, split_off, pass_joined_with};
 
 use crate::chronicle::Chronicle;
 use ghost_values::GhostValue;
@@ -107,7 +107,7 @@ impl Pass {
 
     /// The pass has seen what the other one has too.
     pub(crate) fn join(&mut self, other: Pass)
-        ensures { self.new ≡ joined_with self.old other }
+        ensures { self.new ≡ pass_joined_with self.old other }
     {
         let Pass {
             number,

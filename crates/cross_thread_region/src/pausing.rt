@@ -5,10 +5,10 @@ ghost use Rattle.gc_graph.specs.declared.region.Op.TheVariants as O;
 ghost use Rattle.gc_graph.specs.declared.region.Reply.TheVariants as R;
 ghost use Rattle.gc_graph.specs.History.{IsLegal, NamesWeakSlots};
 ghost use Rattle.persistent_slots.specs.Clearing.{MayBeAsked, AnswersBy, ClearsInTurn};
-ghost use Rattle.cross_thread_region.specs.Histories.{entries_of, slots_of, is_started, strong_told, weak_places};
-ghost use Rattle.cross_thread_region.specs.Calls.{history_of, IsReady, IsAnswered, StaysReady};
+ghost use Rattle.cross_thread_region.specs.Histories.{entries_of, slots_of, is_started, start_told, weak_places};
+ghost use Rattle.cross_thread_region.specs.Calls.{free_history, IsPassReady, IsCallAnswered, StaysReady};
 ghost use Rattle.cross_thread_region.specs.Calls.{Begins, held_by_pause, given_back};
-ghost use Rattle.cross_thread_region.specs.Pauses.{paused, dying_of};
+ghost use Rattle.cross_thread_region.specs.Pauses.{history_paused, dying_of};
 
 use crate::held::HeldRegion;
 use crate::pass::Pass;
@@ -19,15 +19,15 @@ impl Region {
     /// Writes down for each slot its place and 1 where it is strong, and 0 where it isn't. It takes
     /// the room for the pause's entry too. Want of memory is free.
     pub fn start_entry(&mut self, pass: &mut Pass, strong: &mut [u32]) -> Reply
-        requires ready { IsReady self.old pass.old }
+        requires ready { IsPassReady self.old pass.old }
         requires first { pass.old.number ≡ 0 }
         requires strong { length strong.old ≡ self.old.slots }
-        ensures call { IsAnswered self.old pass.old O.Start 0 result self.new pass.new }
+        ensures call { IsCallAnswered self.old pass.old O.Start 0 result self.new pass.new }
         ensures stays { StaysReady self.old pass.old self.new pass.new }
         ensures strong { result ≡ R.Done
-            → strong.new ≡ strong_told (history_of self.new) self.old.slots }
+            → strong.new ≡ start_told (free_history self.new) self.old.slots }
         ensures untold { result ≡ R.NoMemory → strong.new ≡ strong.old }
-        ensures started { result ≡ R.Done → is_started (history_of self.new) ≡ true }
+        ensures started { result ≡ R.Done → is_started (free_history self.new) ≡ true }
     {
         let reply = self.enter(pass, Op::Start, 0);
         if let Reply::Done = reply {
@@ -38,10 +38,10 @@ impl Region {
 
     /// A pause takes the history.
     pub fn pause_begin(&mut self, pass: &mut Pass) -> HeldRegion
-        requires ready { IsReady self.old pass.old }
+        requires ready { IsPassReady self.old pass.old }
         requires first { pass.old.number ≡ 0 }
-        requires started { is_started (history_of self.old) ≡ true }
-        ensures held { result ≡ history_of self.old }
+        requires started { is_started (free_history self.old) ≡ true }
+        ensures held { result ≡ free_history self.old }
         ensures region { self.new ≡ held_by_pause self.old }
         ensures pass { pass.new ≡ pass.old }
     {
@@ -61,13 +61,13 @@ impl Region {
         requires pass { Begins pass.old.seen held }
         requires first { pass.old.number ≡ 0 }
         requires asks { MayBeAsked F.pre F.step dead (weak_places held) }
-        ensures region { self.new ≡ given_back self.old (paused pass.old held result) }
-        ensures seen { pass.new ≡ record pass.old { seen = paused pass.old held result } }
-        ensures ready { IsReady self.new pass.new }
-        ensures legal { IsLegal (entries_of (history_of self.new)) }
+        ensures region { self.new ≡ given_back self.old (history_paused pass.old held result) }
+        ensures seen { pass.new ≡ record pass.old { seen = history_paused pass.old held result } }
+        ensures ready { IsPassReady self.new pass.new }
+        ensures legal { IsLegal (entries_of (free_history self.new)) }
         ensures weak { NamesWeakSlots result (slots_of held) }
         ensures cleared { ClearsInTurn F.step dead (weak_places held)
-            (weak_places (history_of self.new)) }
+            (weak_places (free_history self.new)) }
         ensures exactly { (rule : ℕ → Bool)
             → AnswersBy F.step rule dead (weak_places held)
             → result ≡ dying_of rule held }

@@ -6,8 +6,8 @@ ghost use Rattle.std.specs.Prelude.{IfOk, IsSome, Contains, length, slice_get};
 ghost use Rattle.gc_graph.specs.declared.region.Op.TheVariants as O;
 ghost use Rattle.cross_thread_region.specs.Histories.{entries_of, place_told};
 ghost use Rattle.cross_thread_region.specs.WeakReads.{weak_read_at};
-ghost use Rattle.cross_thread_region.specs.Calls.{new_region, first_pass, history_of, IsReady, IsAnswered, StaysReady};
-ghost use Rattle.cross_thread_region.specs.Calls.{held_by_pause, split_off, joined_with};
+ghost use Rattle.cross_thread_region.specs.Calls.{new_region, first_pass, free_history, IsPassReady, IsCallAnswered, StaysReady};
+ghost use Rattle.cross_thread_region.specs.Calls.{held_by_pause, split_off, pass_joined_with};
 ghost use Rattle.cross_thread_region.specs.Contents.{IsCallWithin};
 ghost use Rattle.gc_graph.specs.History.{IsLegal};
 
@@ -45,7 +45,7 @@ impl Region {
         requires { slots ≤ 32 }
         ensures region { IfOk result (λ made. made.0 ≡ new_region slots) }
         ensures pass { IfOk result (λ made. made.1 ≡ first_pass) }
-        ensures ready { IfOk result (λ made. IsReady made.0 made.1) }
+        ensures ready { IfOk result (λ made. IsPassReady made.0 made.1) }
     {
         let chronicle = Chronicle::new(alloc)?;
         let region = Region {
@@ -57,10 +57,11 @@ impl Region {
 
     /// Slot `into` gets what slot `from` holds. Want of memory is free.
     pub fn copy(&mut self, pass: &mut Pass, from: u32, into: u32) -> Reply
-        requires ready { IsReady self.old pass.old }
+        requires ready { IsPassReady self.old pass.old }
         requires from { from < self.old.slots }
         requires into { into < self.old.slots }
-        ensures call { IsAnswered self.old pass.old (O.Copy from into) 0 result self.new pass.new }
+        ensures call { IsCallAnswered self.old pass.old
+            (O.Copy from into) 0 result self.new pass.new }
         ensures stays { StaysReady self.old pass.old self.new pass.new }
     {
         self.enter(pass, Op::Copy { from, into }, 0)
@@ -68,9 +69,9 @@ impl Region {
 
     /// The slot becomes null. Want of memory is free.
     pub fn clear(&mut self, pass: &mut Pass, slot: u32) -> Reply
-        requires ready { IsReady self.old pass.old }
+        requires ready { IsPassReady self.old pass.old }
         requires slot { slot < self.old.slots }
-        ensures call { IsAnswered self.old pass.old (O.Clear slot) 0 result self.new pass.new }
+        ensures call { IsCallAnswered self.old pass.old (O.Clear slot) 0 result self.new pass.new }
         ensures stays { StaysReady self.old pass.old self.new pass.new }
     {
         self.enter(pass, Op::Clear { slot }, 0)
@@ -78,9 +79,9 @@ impl Region {
 
     /// A strong slot becomes weak. Want of memory is free.
     pub fn weaken(&mut self, pass: &mut Pass, slot: u32) -> Reply
-        requires ready { IsReady self.old pass.old }
+        requires ready { IsPassReady self.old pass.old }
         requires slot { slot < self.old.slots }
-        ensures call { IsAnswered self.old pass.old (O.Weaken slot) 0 result self.new pass.new }
+        ensures call { IsCallAnswered self.old pass.old (O.Weaken slot) 0 result self.new pass.new }
         ensures stays { StaysReady self.old pass.old self.new pass.new }
     {
         self.enter(pass, Op::Weaken { slot }, 0)
@@ -88,10 +89,10 @@ impl Region {
 
     /// Slot `into` becomes strong for what slot `from` names, or null. Want of memory is free.
     pub fn upgrade(&mut self, pass: &mut Pass, from: u32, into: u32) -> Reply
-        requires ready { IsReady self.old pass.old }
+        requires ready { IsPassReady self.old pass.old }
         requires from { from < self.old.slots }
         requires into { into < self.old.slots }
-        ensures call { IsAnswered self.old pass.old (O.Upgrade from into) 0 result
+        ensures call { IsCallAnswered self.old pass.old (O.Upgrade from into) 0 result
             self.new pass.new }
         ensures stays { StaysReady self.old pass.old self.new pass.new }
     {
@@ -100,11 +101,11 @@ impl Region {
 
     /// The slot becomes strong for the node, which has this place. Want of memory is free.
     pub fn export(&mut self, pass: &mut Pass, slot: u32, node: u32, place: u32) -> Reply
-        requires ready { IsReady self.old pass.old }
+        requires ready { IsPassReady self.old pass.old }
         requires first { pass.old.number ≡ 0 }
         requires slot { slot < self.old.slots }
         requires small { place + 1 < 2 ^ 32 }
-        ensures call { IsAnswered self.old pass.old (O.Export slot node) place result
+        ensures call { IsCallAnswered self.old pass.old (O.Export slot node) place result
             self.new pass.new }
         ensures stays { StaysReady self.old pass.old self.new pass.new }
     {
@@ -113,13 +114,13 @@ impl Region {
 
     /// What the slot names, and its place. Want of memory is free.
     pub fn import(&mut self, pass: &mut Pass, slot: u32) -> (Reply, u32)
-        requires ready { IsReady self.old pass.old }
+        requires ready { IsPassReady self.old pass.old }
         requires first { pass.old.number ≡ 0 }
         requires slot { slot < self.old.slots }
-        ensures call { IsAnswered self.old pass.old (O.Import slot) 0 result.0
+        ensures call { IsCallAnswered self.old pass.old (O.Import slot) 0 result.0
             self.new pass.new }
         ensures stays { StaysReady self.old pass.old self.new pass.new }
-        ensures place { result.1 ≡ place_told result.0 (history_of self.new) slot }
+        ensures place { result.1 ≡ place_told result.0 (free_history self.new) slot }
     {
         let reply = self.enter(pass, Op::Import { slot }, 0);
         let place = match reply {
@@ -139,7 +140,7 @@ impl Region {
 
     /// Entry i of those that the pass has seen.
     pub fn entry(&self, pass: &mut Pass, i: u64) -> Entry
-        requires ready { IsReady self.now pass.old }
+        requires ready { IsPassReady self.now pass.old }
         requires seen { i < length pass.old.seen }
         ensures entry { slice_get (entries_of pass.old.seen) i ≡ Some result }
         ensures pass { pass.new ≡ pass.old }
@@ -151,7 +152,7 @@ impl Region {
     /// The place that entry i read from a weak slot, of the entries that the pass has seen: none where
     /// it read a null or a strong slot, or nothing.
     pub fn read_place(&self, pass: &mut Pass, i: u64) -> Option<u32>
-        requires ready { IsReady self.now pass.old }
+        requires ready { IsPassReady self.now pass.old }
         requires seen { i < length pass.old.seen }
         ensures place { result ≡ weak_read_at pass.old.seen i }
         ensures pass { pass.new ≡ pass.old }
@@ -163,41 +164,41 @@ impl Region {
     /// The history is legal. Whoever calls this has the law.
     pub fn is_legal(&self)
         requires { IsSome self.now.inside }
-        ensures { IsLegal (entries_of (history_of self.now)) }
+        ensures { IsLegal (entries_of (free_history self.now)) }
     {
         self.inside().is_legal();
     }
 
     /// A pass with this number, which has seen what the first one has.
     pub fn split_pass(&self, pass: &mut Pass, number: u32) -> Pass
-        requires ready { IsReady self.now pass.old }
+        requires ready { IsPassReady self.now pass.old }
         requires first { pass.old.number ≡ 0 }
         requires above { 0 < number }
         requires below { number ≤ 8 }
         requires new { Contains pass.old.out number → ⊥ }
         ensures other { result ≡ split_off pass.old number }
         ensures out { pass.new ≡ record pass.old { out = number ∷ pass.old.out } }
-        ensures ready { IsReady self.now pass.new }
-        ensures other_ready { IsReady self.now result }
+        ensures ready { IsPassReady self.now pass.new }
+        ensures other_ready { IsPassReady self.now result }
     {
         pass.split(number)
     }
 
     /// The first pass has seen what the other one has too, whose number is no longer out.
     pub fn join_pass(&self, pass: &mut Pass, other: Pass)
-        requires ready { IsReady self.now pass.old }
+        requires ready { IsPassReady self.now pass.old }
         requires first { pass.old.number ≡ 0 }
-        requires other { IsReady self.now other }
+        requires other { IsPassReady self.now other }
         requires out { Contains pass.old.out other.number }
-        ensures joined { pass.new ≡ joined_with pass.old other }
-        ensures ready { IsReady self.now pass.new }
+        ensures joined { pass.new ≡ pass_joined_with pass.old other }
+        ensures ready { IsPassReady self.now pass.new }
     {
         pass.join(other);
     }
 
     pub(crate) fn inside(&self) -> &Chronicle
         requires { IsSome self.now.inside }
-        ensures history { result.now.history ≡ history_of self.now }
+        ensures history { result.now.history ≡ free_history self.now }
         ensures few { self.now.slots ≤ 32 }
     {
         match &self.inside {
@@ -208,7 +209,7 @@ impl Region {
 
     pub(crate) fn take(&mut self) -> Chronicle
         requires { IsSome self.old.inside }
-        ensures chronicle { result.history ≡ history_of self.old }
+        ensures chronicle { result.history ≡ free_history self.old }
         ensures region { self.new ≡ held_by_pause self.old }
         ensures few { self.old.slots ≤ 32 }
     {
@@ -220,10 +221,10 @@ impl Region {
 
     /// Makes the entry of a call. Want of memory is free.
     pub(crate) fn enter(&mut self, pass: &mut Pass, op: Op, place: u32) -> Reply
-        requires ready { IsReady self.old pass.old }
+        requires ready { IsPassReady self.old pass.old }
         requires within { IsCallWithin self.old.slots op }
         requires small { place + 1 < 2 ^ 32 }
-        ensures call { IsAnswered self.old pass.old op place result self.new pass.new }
+        ensures call { IsCallAnswered self.old pass.old op place result self.new pass.new }
         ensures stays { StaysReady self.old pass.old self.new pass.new }
     {
         let mut chronicle = self.take();

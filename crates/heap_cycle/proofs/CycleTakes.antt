@@ -8,7 +8,7 @@ use Rattle.gc_graph.specs.declared.region.Op.{Op}
 use Rattle.gc_graph.specs.declared.region.Op.TheVariants as O
 use Rattle.gc_graph.specs.Outcomes.{took}
 use Rattle.cross_thread_region.specs.declared.chronicle.PlacedEntry.{PlacedEntry}
-use Rattle.cross_thread_region.specs.Calls.{entry_of, first_pass, with_own}
+use Rattle.cross_thread_region.specs.Calls.{placed_entry_of, first_pass, history_with_own}
 use Rattle.cross_thread_region.specs.Histories.{entries_of, slots_of, is_started, IsPlacedBy}
 use Rattle.heap_roots.specs.Nodes.{place_of}
 use Rattle.heap_cycle.specs.declared.parts.Parts.{Parts}
@@ -28,7 +28,7 @@ region_between s mid h ready shared taken others =
     region_taken s mid h ready shared taken (ap (λ (p : Parts). p.objects.nodes) others) (ap (λ (p : Parts). p.cycle.phase) others)
 
 -- then the start entry is made, or was already
-module _ (mid : Parts) (history after : List PlacedEntry) (region : HasRegion mid history) (is : after ≡ with_own history O.Start 0) where
+module _ (mid : Parts) (history after : List PlacedEntry) (region : HasRegion mid history) (is : after ≡ history_with_own history O.Start 0) where
   pub slots_between : mid.cycle.rest.region ≡ slots_of after
   slots_between = region.slots ∙ sym (ap slots_of is ∙ started_slots history)
 
@@ -45,10 +45,10 @@ next_made : (before : List PlacedEntry) (placed : PlacedEntry) → made before (
 next_made before placed = ap entries_of (drop_at before (placed ∷ []) (length before) refl)
 
 -- with one entry of the owner behind what was ahead
-module _ (op : Op) (place : ℕ) (h after : Shared) (low : h.taken ≤ length h.region) (region : after.region ≡ with_own h.region op place)
+module _ (op : Op) (place : ℕ) (h after : Shared) (low : h.taken ≤ length h.region) (region : after.region ≡ history_with_own h.region op place)
     (all : after.taken ≡ length after.region) (others : after ≡ record h { region = after.region; taken = after.taken }) where
   abbrev entry : PlacedEntry
-  entry = entry_of first_pass h.region op place
+  entry = placed_entry_of first_pass h.region op place
 
   one_with : IsTakenWith (entry ∷ []) h after
   one_with = record { region = region; all = all; others = others }
@@ -67,10 +67,10 @@ module _ (op : Op) (place : ℕ) (h after : Shared) (low : h.taken ≤ length h.
 
 -- with one entry more behind that
 module _ (h mid after : Shared) (op : Op) (place : ℕ) (low : h.taken ≤ length h.region) (first : TakesAhead h mid) (one : length mid.region ≡ length h.region + 1)
-    (region : after.region ≡ with_own mid.region op place) (all : after.taken ≡ length after.region)
+    (region : after.region ≡ history_with_own mid.region op place) (all : after.taken ≡ length after.region)
     (others : after ≡ record mid { region = after.region; taken = after.taken }) where
   abbrev last : PlacedEntry
-  last = entry_of first_pass mid.region op place
+  last = placed_entry_of first_pass mid.region op place
 
   abbrev own : List PlacedEntry
   own = first.own ++ last ∷ []

@@ -11,7 +11,7 @@ use Rattle.gc_graph.specs.Outcomes.{may_with_entry, took}
 use Rattle.gc_graph.specs.State.{Node, State, IsLive, graph_of}
 use Rattle.gc_graph.specs.Valid.{region_targets}
 use Rattle.cross_thread_region.specs.declared.chronicle.PlacedEntry.{PlacedEntry}
-use Rattle.cross_thread_region.specs.Histories.{entries_of, slots_of, places_of}
+use Rattle.cross_thread_region.specs.Histories.{entries_of, slots_of, places_in_history}
 use Rattle.cross_thread_region.specs.PlacedNodes.{named_is_target}
 use Rattle.cross_thread_region.specs.WeakReads.{read_from, weak_read_at, entry_read}
 use Rattle.heap_roots.specs.Region.{IsHandled}
@@ -60,11 +60,11 @@ pub no_look : (s : State) (limit from i : ℕ) (history : List PlacedEntry) (o :
     → HasMarks s.phase limit (took s (entries_between from (suc i) history)).may o
 no_look s limit from i history o above low slots none marks =
     let w = entry_at history i low in
-    let told : read_from (slots_of (take i history)) (places_of (take i history)) w.0.entry.op ≡ None =
+    let told : read_from (slots_of (take i history)) (places_in_history (take i history)) w.0.entry.op ≡ None =
     sym (ap (entry_read (take i history)) w.2) ∙ none in
     let read : read_by (replayed s.region (entries_between from i history)) w.0.entry.op ≡ None =
     ap (λ region. read_by region w.0.entry.op) (ap (λ r. replayed r (entries_between from i history)) slots ∙ sym (slots_before history from i above))
-    ∙ reads_none (slots_of (take i history)) (places_of (take i history)) w.0.entry.op told in
+    ∙ reads_none (slots_of (take i history)) (places_in_history (take i history)) w.0.entry.op told in
     subst (λ es. HasMarks s.phase limit (took s es).may o) (sym (between_next history from i w.0 above low w.1))
     (next_marks s limit (entries_between from i history) w.0.entry None o read marks)
 
@@ -73,8 +73,8 @@ pub live_read : (nodes : List Node) (history : List PlacedEntry) (i place : ℕ)
     → (n : ℕ) × IsLiveAt nodes n place
 live_read nodes history i place low handled told =
     let w = entry_at history i low in
-    let reads : ReadsAt (slots_of (take i history)) (places_of (take i history)) w.0.entry.op place =
-    reads_at (slots_of (take i history)) (places_of (take i history)) w.0.entry.op place (sym (ap (entry_read (take i history)) w.2) ∙ told) in (
+    let reads : ReadsAt (slots_of (take i history)) (places_in_history (take i history)) w.0.entry.op place =
+    reads_at (slots_of (take i history)) (places_in_history (take i history)) w.0.entry.op place (sym (ap (entry_read (take i history)) w.2) ∙ told) in (
       reads.node,
       (
         All-contains (IsLive nodes) (region_targets (slots_of (take i history))) reads.node handled.live
@@ -92,8 +92,8 @@ pub looked : (s : State) (limit from i place : ℕ) (history : List PlacedEntry)
 looked s limit from i place history before after above low slots nodes handled told reads_so marks =
     let w = entry_at history i low in
     let es : List Entry = entries_between from i history in
-    let reads : ReadsAt (slots_of (take i history)) (places_of (take i history)) w.0.entry.op place =
-    reads_at (slots_of (take i history)) (places_of (take i history)) w.0.entry.op place (sym (ap (entry_read (take i history)) w.2) ∙ told) in
+    let reads : ReadsAt (slots_of (take i history)) (places_in_history (take i history)) w.0.entry.op place =
+    reads_at (slots_of (take i history)) (places_in_history (take i history)) w.0.entry.op place (sym (ap (entry_read (take i history)) w.2) ∙ told) in
     let live : IsLiveAt before.nodes reads.node place = (
       All-contains (IsLive before.nodes) (region_targets (slots_of (take i history))) reads.node handled.live
           (named_is_target (slots_of (take i history)) reads.slot reads.node reads.named),

@@ -8,8 +8,8 @@ use Rattle.gc_graph.specs.State.{Node, State}
 use Rattle.heap_roots.specs.Nodes.{place_of}
 use Rattle.std.specs.Prelude.{Option, Some, None, option_map}
 use Rattle.cross_thread_region.specs.declared.chronicle.PlacedEntry.{PlacedEntry}
-use Rattle.cross_thread_region.specs.Calls.{entry_of, first_pass, with_own}
-use Rattle.cross_thread_region.specs.Histories.{entries_of, place_at, slots_of, target_of, IsPlacedBy}
+use Rattle.cross_thread_region.specs.Calls.{placed_entry_of, first_pass, history_with_own}
+use Rattle.cross_thread_region.specs.Histories.{entries_of, place_at, slots_of, slot_target, IsPlacedBy}
 use Rattle.heap_cycle.specs.declared.parts.Parts.{Parts}
 use Rattle.heap_cycle.specs.declared.shared.Shared.{Shared}
 use Rattle.heap_cycle.specs.Parts.{setup_of, state_of, IsReady}
@@ -52,18 +52,18 @@ has_mid s mid h history own to ready shared is count then state others =
     took_ordinal s h = ap (λ (st : State). st.ordinal) (took_is (state_of s) (entries_of (ahead_of h)))
 
 -- one entry of the owner came behind
-pub taken_with_one : (h after : Shared) (op : Op) (place made : ℕ) → after ≡ record h { region = with_own h.region op place; taken = made + 1 } → made ≡ length h.region
-    → IsTakenWith (entry_of first_pass h.region op place ∷ []) h after
+pub taken_with_one : (h after : Shared) (op : Op) (place made : ℕ) → after ≡ record h { region = history_with_own h.region op place; taken = made + 1 } → made ≡ length h.region
+    → IsTakenWith (placed_entry_of first_pass h.region op place ∷ []) h after
 taken_with_one h after op place made is count = record {
   region = ap (λ (x : Shared). x.region) is;
-  all = ap (λ (x : Shared). x.taken) is ∙ ap (λ n. n + 1) count ∙ sym (length-append h.region (entry_of first_pass h.region op place ∷ []))
+  all = ap (λ (x : Shared). x.taken) is ∙ ap (λ n. n + 1) count ∙ sym (length-append h.region (placed_entry_of first_pass h.region op place ∷ []))
       ∙ ap (λ (x : Shared). length x.region) (sym is);
   others = is ∙ sym (ap (λ (x : Shared). record h { region = x.region; taken = x.taken }) is);
 }
 
 -- what a slot names is told with its place
 pub target_is : (nodes : List Node) (history : List PlacedEntry) (x : ℕ) → IsPlacedBy (place_of nodes) history
-    → target_of history x ≡ option_map {U = ℕ × ℕ} (λ n. (place_of nodes n, n)) (node_of (region_slot (slots_of history) x))
+    → slot_target history x ≡ option_map {U = ℕ × ℕ} (λ n. (place_of nodes n, n)) (node_of (region_slot (slots_of history) x))
 target_is nodes history x placed = go (node_of (region_slot (slots_of history) x)) refl where
   go : (o : Option ℕ) → node_of (region_slot (slots_of history) x) ≡ o → option_map {U = ℕ × ℕ} (λ n. (place_at history x, n)) o ≡ option_map {U = ℕ × ℕ} (λ n. (place_of nodes n, n)) o
   go None is = refl

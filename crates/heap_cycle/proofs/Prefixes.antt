@@ -12,7 +12,7 @@ use Rattle.gc_graph.specs.State.RegionSlot.{Vacant, StrongTo, WeakTo}
 use Rattle.gc_graph.specs.Valid.{AreLive, region_targets}
 use Rattle.cross_thread_region.specs.declared.chronicle.PlacedEntry.{PlacedEntry}
 use Rattle.cross_thread_region.specs.GivenPlaces.{AreGiven, history_given, places_len}
-use Rattle.cross_thread_region.specs.Histories.{entries_of, slots_of, places_of, places_with, places_through, IsPlacedBy}
+use Rattle.cross_thread_region.specs.Histories.{entries_of, slots_of, places_in_history, places_with, places_through, IsPlacedBy}
 use Rattle.cross_thread_region.specs.NextEntries.{slots_len}
 use Rattle.cross_thread_region.specs.PlacedNodes.{named_is_target}
 
@@ -56,10 +56,10 @@ module _ (nodes : List Node) (rule : ℕ → ℕ) (xs ys : List PlacedEntry) whe
   Given n place = IsLive nodes n × (place ≡ rule n)
 
   given_after : AreLive nodes (region_targets (slots_of xs)) → IsPlacedBy rule xs → All (λ (p : PlacedEntry). IsThreadOp p.entry.op) ys
-      → AreGiven Given (replayed (slots_of xs) (entries_of ys)) (places_through (places_of xs) ys)
+      → AreGiven Given (replayed (slots_of xs) (entries_of ys)) (places_through (places_in_history xs) ys)
   unfolding AreGiven
   given_after live placed threads =
-      history_given Given (slots_of xs) (places_of xs) ys (through_len (replicate 32 0) xs ∙ sym (slots_len xs))
+      history_given Given (slots_of xs) (places_in_history xs) ys (through_len (replicate 32 0) xs ∙ sym (slots_len xs))
       (λ x n e. (All-contains (IsLive nodes) (region_targets (slots_of xs)) n live (named_is_target (slots_of xs) x n e), placed x n e))
       (λ p x n there e. absurd (no_export p.entry.op x n (All-contains (λ (q : PlacedEntry). IsThreadOp q.entry.op) ys p threads there) e))
 

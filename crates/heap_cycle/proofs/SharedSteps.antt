@@ -12,7 +12,7 @@ use Rattle.gc_graph.specs.Outcomes.{owner_entry}
 use Rattle.gc_graph.specs.State.{Shape, State, RegionSlot}
 use Rattle.gc_graph.specs.Sweep.{SweepsInPhase}
 use Rattle.cross_thread_region.specs.declared.chronicle.PlacedEntry.{PlacedEntry}
-use Rattle.cross_thread_region.specs.Calls.{entry_of, first_pass, with_own}
+use Rattle.cross_thread_region.specs.Calls.{placed_entry_of, first_pass, history_with_own}
 use Rattle.cross_thread_region.specs.Histories.{entries_of, slots_of, is_started, IsPlacedBy}
 use Rattle.cross_thread_region.specs.NextEntries.{slots_next, started_next}
 use Rattle.cross_thread_region.specs.PlacedNodes.{placed_next}
@@ -31,10 +31,10 @@ made_next before placed = ap entries_of (drop_at before (placed ∷ []) (length 
 
 -- the owner's entry is the one that its command takes
 pub own_made : (s : State) (history : List PlacedEntry) (op : Op) (place : ℕ) → s.region ≡ slots_of history
-    → made history (with_own history op place) ≡ owner_entry s op ∷ []
+    → made history (history_with_own history op place) ≡ owner_entry s op ∷ []
 own_made s history op place slots =
     let entry : List RegionSlot → List Entry = λ region. record { thread = 0; op = op; reply = reply_of region op } ∷ [] in
-    made_next history (entry_of first_pass history op place) ∙ ap entry (sym slots)
+    made_next history (placed_entry_of first_pass history op place) ∙ ap entry (sym slots)
 
 -- ---- the region after an entry
 
@@ -43,10 +43,10 @@ pub own_region : (s new : Parts) (history : List PlacedEntry) (op : Op) (place :
     → new.cycle.rest.region ≡ region_after s.cycle.rest.region op
     → ((n : ℕ) → place_of new.objects.nodes n ≡ place_of s.objects.nodes n)
     → ((x n : ℕ) → op ≡ O.Export x n → place ≡ place_of s.objects.nodes n)
-    → is_marking new.cycle.phase ≡ started_after (is_marking s.cycle.phase) op → HasRegion new (with_own history op place)
+    → is_marking new.cycle.phase ≡ started_after (is_marking s.cycle.phase) op → HasRegion new (history_with_own history op place)
 own_region s new history op place has region places given phase =
-    let entry : PlacedEntry = entry_of first_pass history op place in
-    let placed : IsPlacedBy (place_of s.objects.nodes) (with_own history op place) = placed_next (place_of s.objects.nodes) history entry has.placed given in
+    let entry : PlacedEntry = placed_entry_of first_pass history op place in
+    let placed : IsPlacedBy (place_of s.objects.nodes) (history_with_own history op place) = placed_next (place_of s.objects.nodes) history entry has.placed given in
     record {
       slots = region ∙ ap (λ slots. region_after slots op) has.slots ∙ sym (slots_next history entry);
       placed = λ x n named. placed x n named ∙ sym (places n);
@@ -54,14 +54,14 @@ own_region s new history op place has region places given phase =
     }
 
 -- the start entry leaves the slots and their places
-pub started_slots : (history : List PlacedEntry) → slots_of (with_own history O.Start 0) ≡ slots_of history
-started_slots history = slots_next history (entry_of first_pass history O.Start 0)
+pub started_slots : (history : List PlacedEntry) → slots_of (history_with_own history O.Start 0) ≡ slots_of history
+started_slots history = slots_next history (placed_entry_of first_pass history O.Start 0)
 
-pub started_placed : (rule : ℕ → ℕ) (history : List PlacedEntry) → IsPlacedBy rule history → IsPlacedBy rule (with_own history O.Start 0)
-started_placed rule history placed = placed_next rule history (entry_of first_pass history O.Start 0) placed (λ x n e. cc)
+pub started_placed : (rule : ℕ → ℕ) (history : List PlacedEntry) → IsPlacedBy rule history → IsPlacedBy rule (history_with_own history O.Start 0)
+started_placed rule history placed = placed_next rule history (placed_entry_of first_pass history O.Start 0) placed (λ x n e. cc)
 
-pub is_started_now : (history : List PlacedEntry) → is_started (with_own history O.Start 0) ≡ true
-is_started_now history = started_next history (entry_of first_pass history O.Start 0)
+pub is_started_now : (history : List PlacedEntry) → is_started (history_with_own history O.Start 0) ≡ true
+is_started_now history = started_next history (placed_entry_of first_pass history O.Start 0)
 
 -- the region's slots are handles to live nodes
 pub handled : (s : Parts) (history : List PlacedEntry) → IsReady s → HasRegion s history → IsHandled s.objects.nodes history

@@ -23,8 +23,8 @@ use Rattle.gc_graph.specs.State.{Node, RegionSlot, State, IsLive, graph_of, slot
 use Rattle.gc_graph.specs.State.RegionSlot.{Vacant, StrongTo, WeakTo}
 use Rattle.gc_graph.specs.Valid.{IsMay, region_targets}
 use Rattle.cross_thread_region.specs.declared.chronicle.PlacedEntry.{PlacedEntry}
-use Rattle.cross_thread_region.specs.Calls.{entry_of, first_pass, with_own}
-use Rattle.cross_thread_region.specs.Histories.{entries_of, slots_of, place_at, target_of}
+use Rattle.cross_thread_region.specs.Calls.{placed_entry_of, first_pass, history_with_own}
+use Rattle.cross_thread_region.specs.Histories.{entries_of, slots_of, place_at, slot_target}
 use Rattle.cross_thread_region.specs.PlacedNodes.{named_is_target, strong_is_target}
 use Rattle.page_words.specs.Seat.{SeatView}
 use Rattle.sweeper.specs.Sweeping.{cursor_at}
@@ -71,9 +71,9 @@ module _ (s : Parts) (history : List PlacedEntry) (op : Op) (place : ℕ) (seat 
       → started_after (is_marking s.cycle.phase) op ≡ is_marking s.cycle.phase
       → ((x n : ℕ) → op ≡ O.Export x n → place ≡ place_of s.objects.nodes n)
       → HasMarks s.cycle.phase (cursor_at s.objects.shape s.cycle.sweep) (may_with_entry (state_of s) (read_by s.cycle.rest.region op)) (record s.objects { seat = seat })
-      → HasOwn op s history taken_parts (with_own history op place)
+      → HasOwn op s history taken_parts (history_with_own history op place)
   has_taken ready shared may calm given marks =
-      let piece : made history (with_own history op place) ≡ owner_entry (state_of s) op ∷ [] = own_made (state_of s) history op place shared.slots in
+      let piece : made history (history_with_own history op place) ≡ owner_entry (state_of s) op ∷ [] = own_made (state_of s) history op place shared.slots in
       record {
         piece = piece;
         legal = subst (IsLegalFrom s.cycle.rest.region (is_marking s.cycle.phase)) (sym piece) (refl, may, tt);
@@ -190,7 +190,7 @@ none_named place None is = refl
 none_named place (Some n) is = cc
 
 pub import_marks : (s : Parts) (history : List PlacedEntry) (x : ℕ) (target : Option (ℕ × ℕ)) (o : ObjectsView) → ReachIsLeast → IsReady s → HasRegion s history
-    → target ≡ target_of history x → HasLooked s target o
+    → target ≡ slot_target history x → HasLooked s target o
     → HasMarks s.cycle.phase (cursor_at s.objects.shape s.cycle.sweep) (may_with_entry (state_of s) (read_by s.cycle.rest.region (O.Import x))) o
 import_marks s history x target o law ready shared is looked = go target refl where
   slot : RegionSlot
@@ -211,7 +211,7 @@ import_marks s history x target o law ready shared is looked = go target refl wh
       (looked.marks s.cycle.phase (cursor_at s.objects.shape s.cycle.sweep) s.cycle.rest.may t e ready.tied.marks)
 
 -- what an import gives is live, at its place
-pub target_live : (s : Parts) (history : List PlacedEntry) (x : ℕ) (t : ℕ × ℕ) → IsReady s → HasRegion s history → target_of history x ≡ Some t
+pub target_live : (s : Parts) (history : List PlacedEntry) (x : ℕ) (t : ℕ × ℕ) → IsReady s → HasRegion s history → slot_target history x ≡ Some t
     → IsLiveAt s.objects.nodes t.1 t.0
 target_live s history x t ready shared is =
     let node : node_of (region_slot (slots_of history) x) ≡ Some t.1 = target_number (place_at history x) (node_of (region_slot (slots_of history) x)) t is in
@@ -226,21 +226,21 @@ target_live s history x t ready shared is =
     target_place place (Some n) t is =
         (let same : (place, n) ≡ t = cc in ap (λ (y : ℕ × ℕ). y.0) same)
 
-pub targets_live : (s : Parts) (history : List PlacedEntry) (x : ℕ) (target : Option (ℕ × ℕ)) → IsReady s → HasRegion s history → target ≡ target_of history x
+pub targets_live : (s : Parts) (history : List PlacedEntry) (x : ℕ) (target : Option (ℕ × ℕ)) → IsReady s → HasRegion s history → target ≡ slot_target history x
     → IfSome target (λ t. IsLiveAt s.objects.nodes t.1 t.0)
 targets_live s history x None ready has is = tt
 targets_live s history x (Some t) ready has is = target_live s history x t ready has (sym is)
 
 -- the parts as a call left them
 pub taken_by : (s : Parts) (history after : List PlacedEntry) (op : Op) (place : ℕ) (o : ObjectsView) (cycle : CycleView) (rest : State)
-    → o ≡ record s.objects { seat = o.seat } → cycle ≡ record s.cycle { rest = rest } → rest ≡ taken_own (state_of s) op → after ≡ with_own history op place
-    → HasOwn op s history (taken_parts s history op place o.seat) (with_own history op place)
+    → o ≡ record s.objects { seat = o.seat } → cycle ≡ record s.cycle { rest = rest } → rest ≡ taken_own (state_of s) op → after ≡ history_with_own history op place
+    → HasOwn op s history (taken_parts s history op place o.seat) (history_with_own history op place)
     → HasOwn op s history (record s { objects = o; cycle = cycle }) after
 taken_by s history after op place o cycle rest others changed own made_is is =
     let whole : cycle ≡ record s.cycle { rest = taken_own (state_of s) op } = changed ∙ ap (λ (r : State). record s.cycle { rest = r }) own in
     subst (HasOwn op s history (record s { objects = o; cycle = cycle })) (sym made_is)
-    (subst (λ (k : CycleView). HasOwn op s history (record s { objects = o; cycle = k }) (with_own history op place)) (sym whole)
-    (subst (λ (v : ObjectsView). HasOwn op s history (record s { objects = v; cycle = record s.cycle { rest = taken_own (state_of s) op } }) (with_own history op place)) (sym others) is))
+    (subst (λ (k : CycleView). HasOwn op s history (record s { objects = o; cycle = k }) (history_with_own history op place)) (sym whole)
+    (subst (λ (v : ObjectsView). HasOwn op s history (record s { objects = v; cycle = record s.cycle { rest = taken_own (state_of s) op } }) (history_with_own history op place)) (sym others) is))
 
 -- ---- after what was ahead
 
@@ -280,17 +280,17 @@ legal_after s mid h piece shared state legal =
 -- a call of the owner took what was ahead, and then its own entry
 pub taken_after : (op : Op) (place : ℕ) (s mid new : Parts) (h after : Shared) → HasShared s h → state_of mid ≡ took (state_of s) (entries_of (ahead_of h))
     → mid.objects.nodes ≡ s.objects.nodes → setup_of mid ≡ setup_of s → mid.objects.grey ≡ s.objects.grey → mid.handles ≡ s.handles
-    → mid.cycle.rest.ordinal ≡ s.cycle.rest.ordinal → HasOwn op mid h.region new (with_own h.region op place)
-    → IsTakenWith (entry_of first_pass h.region op place ∷ []) h after → HasTaken op s h new after
+    → mid.cycle.rest.ordinal ≡ s.cycle.rest.ordinal → HasOwn op mid h.region new (history_with_own h.region op place)
+    → IsTakenWith (placed_entry_of first_pass h.region op place ∷ []) h after → HasTaken op s h new after
 taken_after op place s mid new h after shared state nodes setup grey handles ordinal own is =
     let es : List Entry = entries_of (ahead_of h) in
-    let x : PlacedEntry = entry_of first_pass h.region op place in
+    let x : PlacedEntry = placed_entry_of first_pass h.region op place in
     let low : h.taken ≤ length h.region = shared.threads.taken in
     let piece : made (taken_of h) (taken_of after) ≡ es ++ x.entry ∷ [] = piece_is (x ∷ []) h after low is in
     let entry : x.entry ∷ [] ≡ owner_entry (took (state_of s) es) op ∷ [] =
     sym (ap entries_of (drop_at h.region (x ∷ []) (length h.region) refl)) ∙ own.piece ∙ ap (λ (t : State). owner_entry t op ∷ []) state in
     let whole : made (taken_of h) (taken_of after) ≡ es ++ owner_entry (took (state_of s) es) op ∷ [] = piece ∙ ap (λ l. es ++ l) entry in
-    let made_own : made h.region (with_own h.region op place) ≡ x.entry ∷ [] = ap entries_of (drop_at h.region (x ∷ []) (length h.region) refl) in
+    let made_own : made h.region (history_with_own h.region op place) ≡ x.entry ∷ [] = ap entries_of (drop_at h.region (x ∷ []) (length h.region) refl) in
     record {
       takes = record {
         others = shared.ahead.others;
@@ -298,7 +298,7 @@ taken_after op place s mid new h after shared state nodes setup grey handles ord
         legal = subst (IsLegalFrom (state_of s).region (is_marking s.cycle.phase)) (sym piece)
             (legal_after s mid h (x.entry ∷ []) shared state (subst (IsLegalFrom (state_of mid).region (is_marking mid.cycle.phase)) made_own own.legal));
       };
-      state = own.state ∙ ap (λ (t : State). took t (made h.region (with_own h.region op place))) state ∙ ap (took (took (state_of s) es)) made_own
+      state = own.state ∙ ap (λ (t : State). took t (made h.region (history_with_own h.region op place))) state ∙ ap (took (took (state_of s) es)) made_own
           ∙ sym (took_append (state_of s) es (x.entry ∷ [])) ∙ ap (took (state_of s)) (sym piece);
       grown = takes_ahead (x ∷ []) h after low is (All-cons IsOwners x.entry [] refl (All-nil IsOwners)) (omega arith);
       region = subst (HasRegion new) (sym (taken_all (x ∷ []) h after low is)) own.shared;

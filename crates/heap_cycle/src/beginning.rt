@@ -5,7 +5,7 @@ ghost use Rattle.std.specs.Prelude.{◌≡◌, ◌*◌, ◌^◌, ◌≤◌, true
 ghost use Rattle.std.specs.Prelude.{OnOk, OnErr};
 ghost use Rattle.gc_graph.specs.declared.phase.Phase.TheVariants.{Idle, Marking};
 ghost use Rattle.gc_graph.specs.CycleSteps.{is_marking};
-ghost use Rattle.cross_thread_region.specs.Histories.{slots_of, strong_told, is_started};
+ghost use Rattle.cross_thread_region.specs.Histories.{slots_of, start_told, is_started};
 ghost use Rattle.cross_thread_region.specs.Histories.{IsPlacedBy};
 ghost use Rattle.heap_roots.specs.Nodes.{place_of};
 ghost use Rattle.page_space.specs.Pages.{word_count};
@@ -66,7 +66,7 @@ fn mark_roots(parts: &mut Parts, region: &RegionHandles, told: &[u32])
     requires slots { parts.old.cycle.rest.region ≡ slots_of region.now }
     requires placed { IsPlacedBy (place_of parts.old.objects.nodes) region.now }
     requires started { is_started region.now ≡ true }
-    requires told { told.now ≡ strong_told region.now 32 }
+    requires told { told.now ≡ start_told region.now 32 }
     ensures state { state_of parts.new ≡ started_state (state_of parts.old) }
     ensures ready { IsReady parts.new }
     ensures shared { HasRegion parts.new region.now }

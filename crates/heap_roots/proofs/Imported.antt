@@ -6,8 +6,8 @@ use Rattle.gc_graph.specs.declared.region.Reply.{Reply}
 use Rattle.gc_graph.specs.declared.region.Reply.TheVariants as R
 use Rattle.gc_graph.specs.History.{region_slot, node_of, reply_with}
 use Rattle.cross_thread_region.specs.declared.chronicle.PlacedEntry.{PlacedEntry}
-use Rattle.cross_thread_region.specs.Calls.{RegionView, PassView, history_of, entry_of, IsAnswered}
-use Rattle.cross_thread_region.specs.Histories.{slots_of, place_at, place_told, target_of}
+use Rattle.cross_thread_region.specs.Calls.{RegionView, PassView, free_history, placed_entry_of, IsCallAnswered}
+use Rattle.cross_thread_region.specs.Histories.{slots_of, place_at, place_told, slot_target}
 use Rattle.cross_thread_region.specs.NextEntries.{places_next}
 
 -- the node that a reply names
@@ -40,18 +40,18 @@ told_is R.Null history x at place told same = refl
 told_is R.NoMemory history x at place told same = refl
 
 -- an import tells its slot's target
-pub imported : (old new : RegionView) (pass passed : PassView) (x place : ℕ) (reply : Reply) → IsAnswered old pass (O.Import x) 0 reply new passed
-    → (reply ≡ R.NoMemory → ⊥) → place ≡ place_told reply (history_of new) x
-    → target_of (history_of old) x ≡ target_at place (named_by reply)
+pub imported : (old new : RegionView) (pass passed : PassView) (x place : ℕ) (reply : Reply) → IsCallAnswered old pass (O.Import x) 0 reply new passed
+    → (reply ≡ R.NoMemory → ⊥) → place ≡ place_told reply (free_history new) x
+    → slot_target (free_history old) x ≡ target_at place (named_by reply)
 imported old new pass passed x place reply answered remembered told = elim answered [
   | inl refused ↦ absurd (remembered refused.reply_is)
   | inr entered ↦ (
-      let history : List PlacedEntry = history_of old in
+      let history : List PlacedEntry = free_history old in
       let node : node_of (region_slot (slots_of history) x) ≡ named_by reply =
       sym (named_back (node_of (region_slot (slots_of history) x))) ∙ sym (ap named_by entered.reply_is) in
-      let same : place_at (history_of new) x ≡ place_at history x =
-      ap (λ r. place_at (history_of r) x) entered.region
-      ∙ ap (λ places. slice_index_or places x 0) (places_next history (entry_of pass history (O.Import x) 0)) in
-      ap (target_at (place_at history x)) node ∙ told_is reply (history_of new) x (place_at history x) place told same
+      let same : place_at (free_history new) x ≡ place_at history x =
+      ap (λ r. place_at (free_history r) x) entered.region
+      ∙ ap (λ places. slice_index_or places x 0) (places_next history (placed_entry_of pass history (O.Import x) 0)) in
+      ap (target_at (place_at history x)) node ∙ told_is reply (free_history new) x (place_at history x) place told same
       )
 ]

@@ -5,7 +5,7 @@ use Rattle.gc_graph.specs.Members.{holds_from}
 use Rattle.gc_graph.specs.State.{Node, IsLive, slot_targets, stack_targets, strong_region_targets}
 use Rattle.gc_graph.specs.Valid.{AreLive, region_targets}
 use Rattle.cross_thread_region.specs.declared.chronicle.PlacedEntry.{PlacedEntry}
-use Rattle.cross_thread_region.specs.Histories.{slots_of, strong_told}
+use Rattle.cross_thread_region.specs.Histories.{slots_of, start_told}
 use Rattle.cross_thread_region.specs.PlacedNodes.{strong_target_is_target, strong_place_named, told_strong}
 use Rattle.heap_objects.specs.AmongNodes.{IsAmong, among_left, among_right}
 use Rattle.heap_objects.specs.Nodes.{place_of}
@@ -36,7 +36,7 @@ roots_live nodes handles history slots stack shared =
 
 -- each place that a start tells is that of a root
 pub tells_roots : (nodes : List Node) (handles : HandlesView) (history : List PlacedEntry) → IsHandled nodes history
-    → TellsRoots nodes (roots_in handles history) (strong_told history 32)
+    → TellsRoots nodes (roots_in handles history) (start_told history 32)
 tells_roots nodes handles history shared p told =
     let slot = told_strong history 32 p told in
     let node = strong_place_named (place_of nodes) history slot.0 p shared.placed slot.2 in

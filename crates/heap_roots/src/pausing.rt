@@ -9,7 +9,7 @@ ghost use Rattle.gc_graph.specs.State.{slot_targets, stack_targets, strong_regio
 ghost use Rattle.gc_graph.specs.Pause.{live_count, dead_count, is_dead_at, clear_slot};
 ghost use Rattle.gc_graph.specs.Valid.{AreLive};
 ghost use Rattle.cross_thread_region.specs.Histories.{slots_of, strong_place};
-ghost use Rattle.cross_thread_region.specs.Histories.{strong_told, is_started};
+ghost use Rattle.cross_thread_region.specs.Histories.{start_told, is_started};
 ghost use Rattle.callback_table.specs.Registry.{IsRegistered};
 ghost use Rattle.callback_table.specs.Table.{callback_kinds};
 ghost use Rattle.marker_core.specs.Bodies.{holds};
@@ -38,7 +38,7 @@ impl Handles {
     pub fn begin(&self, region: &RegionHandles, told: &[u32], objects: &mut Objects)
         ghost roots: { List ℕ }
         requires roots { roots ≡ roots_in self.now region.now }
-        requires told { told.now ≡ strong_told region.now 32 }
+        requires told { told.now ≡ start_told region.now 32 }
         requires shared { IsHandled objects.old.nodes region.now }
         requires valid { AreOfValid (setup_of_objects objects.old) objects.old.nodes }
         requires rest { IsAtRest objects.old }

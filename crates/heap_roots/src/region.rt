@@ -4,8 +4,8 @@ ghost use Rattle.std.specs.Prelude.{◌≡◌, ◌<◌, ◌+◌, ◌^◌, [], So
 ghost use Rattle.std.specs.Prelude.{slice_get};
 ghost use Rattle.gc_graph.specs.declared.region.Op.TheVariants as O;
 ghost use Rattle.gc_graph.specs.History.{IsLegal};
-ghost use Rattle.cross_thread_region.specs.Calls.{with_own};
-ghost use Rattle.cross_thread_region.specs.Histories.{entries_of, strong_told, target_of};
+ghost use Rattle.cross_thread_region.specs.Calls.{history_with_own};
+ghost use Rattle.cross_thread_region.specs.Histories.{entries_of, start_told, slot_target};
 ghost use Rattle.cross_thread_region.specs.WeakReads.{weak_read_at};
 ghost use Rattle.thread_queues.specs.Going.{HaveGone};
 ghost use Rattle.thread_queues.specs.Queues.{threads_in};
@@ -30,12 +30,12 @@ pub struct RegionHandles {
 impl Model for RegionHandles {
     ghost use Rattle.std.specs.Prelude.{List};
     ghost use Rattle.cross_thread_region.specs.declared.chronicle.PlacedEntry.{PlacedEntry};
-    ghost use Rattle.cross_thread_region.specs.Calls.{history_of};
+    ghost use Rattle.cross_thread_region.specs.Calls.{free_history};
     ghost use Rattle.heap_roots.specs.Region.{IsOwned};
 
     ghost Value = { List PlacedEntry };
 
-    ghost view = { λ r. history_of r.region };
+    ghost view = { λ r. free_history r.region };
 
     ghost invariant = { λ r. IsOwned r.region r.pass };
 }
@@ -61,7 +61,8 @@ impl RegionHandles {
     pub fn export(&mut self, slot: u32, number: u32, place: u32) -> Result<(), NoMemory>
         requires slot { slot < 32 }
         requires small { place + 1 < 2 ^ 32 }
-        ensures made { OnOk result (self.new ≡ with_own self.old (O.Export slot number) place) }
+        ensures made { OnOk result (self.new
+            ≡ history_with_own self.old (O.Export slot number) place) }
         ensures same { OnErr result (self.new ≡ self.old) }
     {
         match self.region.export(&mut self.pass, slot, number, place) {
@@ -73,8 +74,8 @@ impl RegionHandles {
     /// The place and the number of what the slot names. Want of memory is free.
     pub fn import(&mut self, slot: u32) -> Result<Option<(u32, u32)>, NoMemory>
         requires slot { slot < 32 }
-        ensures target { IfOk result (λ target. target ≡ target_of self.old slot) }
-        ensures made { OnOk result (self.new ≡ with_own self.old (O.Import slot) 0) }
+        ensures target { IfOk result (λ target. target ≡ slot_target self.old slot) }
+        ensures made { OnOk result (self.new ≡ history_with_own self.old (O.Import slot) 0) }
         ensures same { OnErr result (self.new ≡ self.old) }
     {
         let (reply, place) = self.region.import(&mut self.pass, slot);
@@ -89,8 +90,8 @@ impl RegionHandles {
     /// where it isn't. It takes the room for the pause's entry too. Want of memory is free.
     pub fn start(&mut self, told: &mut [u32]) -> Result<(), NoMemory>
         requires slots { length told.old ≡ 32 }
-        ensures made { OnOk result (self.new ≡ with_own self.old O.Start 0) }
-        ensures told { OnOk result (told.new ≡ strong_told self.new 32) }
+        ensures made { OnOk result (self.new ≡ history_with_own self.old O.Start 0) }
+        ensures told { OnOk result (told.new ≡ start_told self.new 32) }
         ensures untold { OnErr result (told.new ≡ told.old) }
         ensures same { OnErr result (self.new ≡ self.old) }
     {

@@ -1,7 +1,7 @@
 // What passes see.
 
 ghost use Rattle.std.specs.Prelude.{◌≡◌, []};
-ghost use Rattle.cross_thread_region.specs.Calls.{IsReady};
+ghost use Rattle.cross_thread_region.specs.Calls.{IsPassReady};
 
 use cross_thread_region::{Pass, Region};
 use gc_graph::{Entry, Op, Reply};
@@ -10,7 +10,7 @@ use std::alloc::Global;
 /// Whether the first pass has seen one entry before another one's call is joined to it, and two after,
 /// of which the second is that of the call.
 fn brings_its_entry(region: &mut Region, pass: &mut Pass) -> bool
-    requires ready { IsReady region.old pass.old }
+    requires ready { IsPassReady region.old pass.old }
     requires first { pass.old.number ≡ 0 }
     requires none_out { pass.old.out ≡ [] }
     requires slots { region.old.slots ≡ 2 }
@@ -25,7 +25,7 @@ fn brings_its_entry(region: &mut Region, pass: &mut Pass) -> bool
 
 /// Whether entry 1 is that of pass 4, which upgraded slot 0 into slot 1.
 fn fourth_upgraded(region: &Region, pass: &mut Pass) -> bool
-    requires { IsReady region.now pass.old }
+    requires { IsPassReady region.now pass.old }
 {
     region.entries(pass) > 1
         && matches!(

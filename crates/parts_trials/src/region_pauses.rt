@@ -1,7 +1,7 @@
 // A start, and the pause after it.
 
 ghost use Rattle.std.specs.Prelude.{◌≡◌, ◌==◌, true, None};
-ghost use Rattle.cross_thread_region.specs.Calls.{Begins, IsReady, StaysReady, history_of};
+ghost use Rattle.cross_thread_region.specs.Calls.{Begins, IsPassReady, StaysReady, free_history};
 ghost use Rattle.cross_thread_region.specs.Histories.{is_started};
 
 use cross_thread_region::{HeldRegion, Pass, Region};
@@ -10,7 +10,7 @@ use std::alloc::Global;
 
 /// Slots 0 and 1 name one object, strongly and weakly, and slots 2 and 31 another one, weakly.
 fn fill(region: &mut Region, pass: &mut Pass)
-    requires ready { IsReady region.old pass.old }
+    requires ready { IsPassReady region.old pass.old }
     requires first { pass.old.number ≡ 0 }
     requires slots { region.old.slots ≡ 32 }
     ensures { StaysReady region.old pass.old region.new pass.new }
@@ -40,7 +40,7 @@ fn end_without(region: &mut Region, pass: &mut Pass, held: HeldRegion, gone: u32
     requires held { region.old.inside ≡ None }
     requires pass { Begins pass.old.seen held }
     requires first { pass.old.number ≡ 0 }
-    ensures ready { IsReady region.new pass.new }
+    ensures ready { IsPassReady region.new pass.new }
     ensures slots { region.new.slots ≡ region.old.slots }
     ensures number { pass.new.number ≡ pass.old.number }
 {
@@ -55,10 +55,10 @@ fn end_without(region: &mut Region, pass: &mut Pass, held: HeldRegion, gone: u32
 
 /// The pause clears slots 2 and 31, whose object is dead; slot 1 still names its object.
 fn clears_two(region: &mut Region, pass: &mut Pass) -> bool
-    requires ready { IsReady region.old pass.old }
+    requires ready { IsPassReady region.old pass.old }
     requires first { pass.old.number ≡ 0 }
     requires slots { region.old.slots ≡ 32 }
-    requires started { is_started (history_of region.old) ≡ true }
+    requires started { is_started (free_history region.old) ≡ true }
 {
     let held = region.pause_begin(pass);
     let shown = shows_places(&held);
@@ -70,7 +70,7 @@ fn clears_two(region: &mut Region, pass: &mut Pass) -> bool
 
 /// Whether a start tells what it is to, and the pause after it clears what it is to.
 fn starts_and_clears(region: &mut Region, pass: &mut Pass) -> bool
-    requires ready { IsReady region.old pass.old }
+    requires ready { IsPassReady region.old pass.old }
     requires first { pass.old.number ≡ 0 }
     requires slots { region.old.slots ≡ 32 }
 {

@@ -1,7 +1,7 @@
 // The places that entries read from weak slots.
 
 ghost use Rattle.std.specs.Prelude.{◌≡◌, ◌<◌};
-ghost use Rattle.cross_thread_region.specs.Calls.{IsReady, StaysReady};
+ghost use Rattle.cross_thread_region.specs.Calls.{IsPassReady, StaysReady};
 
 use cross_thread_region::{Pass, Region};
 use std::alloc::Global;
@@ -9,7 +9,7 @@ use std::alloc::Global;
 /// Slot 0 is strong and slot 1 weak for the object with place 30. Slot 2 is upgraded from the weak
 /// slot, slot 3 from the strong one, and slot 4 from a null one; slots 0 and 1 are imported.
 fn fill(region: &mut Region, pass: &mut Pass)
-    requires ready { IsReady region.old pass.old }
+    requires ready { IsPassReady region.old pass.old }
     requires first { pass.old.number ≡ 0 }
     requires slots { region.old.slots ≡ 32 }
     ensures { StaysReady region.old pass.old region.new pass.new }
@@ -26,7 +26,7 @@ fn fill(region: &mut Region, pass: &mut Pass)
 
 /// What the entry read, where there is one.
 fn read(region: &Region, pass: &mut Pass, i: u64) -> Option<u32>
-    requires { IsReady region.now pass.old }
+    requires { IsPassReady region.now pass.old }
     ensures { pass.new ≡ pass.old }
 {
     if i < region.entries(pass) {
@@ -37,7 +37,7 @@ fn read(region: &Region, pass: &mut Pass, i: u64) -> Option<u32>
 }
 
 fn weak_reads_alone_are_told(region: &mut Region, pass: &mut Pass) -> bool
-    requires ready { IsReady region.old pass.old }
+    requires ready { IsPassReady region.old pass.old }
     requires first { pass.old.number ≡ 0 }
     requires slots { region.old.slots ≡ 32 }
 {

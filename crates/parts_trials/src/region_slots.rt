@@ -1,7 +1,7 @@
 // Each call on each kind of slot.
 
 ghost use Rattle.std.specs.Prelude.{◌≡◌, ◌+◌, ◌<◌, ◌^◌};
-ghost use Rattle.cross_thread_region.specs.Calls.{IsReady, StaysReady};
+ghost use Rattle.cross_thread_region.specs.Calls.{IsPassReady, StaysReady};
 
 use cross_thread_region::{Pass, Region};
 use gc_graph::Reply;
@@ -11,7 +11,7 @@ use std::alloc::Global;
 /// slot 3 is cleared, slot 4 is a copy of a null slot that is weakened, and slot 31 is upgraded from
 /// it.
 fn fill(region: &mut Region, pass: &mut Pass)
-    requires ready { IsReady region.old pass.old }
+    requires ready { IsPassReady region.old pass.old }
     requires first { pass.old.number ≡ 0 }
     requires slots { region.old.slots ≡ 32 }
     ensures { StaysReady region.old pass.old region.new pass.new }
@@ -30,7 +30,7 @@ fn fill(region: &mut Region, pass: &mut Pass)
 
 /// Whether the slot names the node, which has this place.
 fn names(region: &mut Region, pass: &mut Pass, slot: u32, node: u32, place: u32) -> bool
-    requires ready { IsReady region.old pass.old }
+    requires ready { IsPassReady region.old pass.old }
     requires first { pass.old.number ≡ 0 }
     requires slot { slot < region.old.slots }
     ensures { StaysReady region.old pass.old region.new pass.new }
@@ -42,7 +42,7 @@ fn names(region: &mut Region, pass: &mut Pass, slot: u32, node: u32, place: u32)
 }
 
 fn is_null(region: &mut Region, pass: &mut Pass, slot: u32) -> bool
-    requires ready { IsReady region.old pass.old }
+    requires ready { IsPassReady region.old pass.old }
     requires first { pass.old.number ≡ 0 }
     requires slot { slot < region.old.slots }
     ensures { StaysReady region.old pass.old region.new pass.new }
@@ -51,7 +51,7 @@ fn is_null(region: &mut Region, pass: &mut Pass, slot: u32) -> bool
 }
 
 fn all_are_named(region: &mut Region, pass: &mut Pass) -> bool
-    requires ready { IsReady region.old pass.old }
+    requires ready { IsPassReady region.old pass.old }
     requires first { pass.old.number ≡ 0 }
     requires slots { region.old.slots ≡ 32 }
 {

@@ -17,10 +17,10 @@ use Rattle.gc_graph.specs.RegionSteps.{AnswersOrder, op_of}
 use Rattle.gc_graph.specs.RegionSteps.Answer.{Replied, Told}
 use Rattle.cross_thread_region.specs.declared.chronicle.PlacedEntry.{PlacedEntry}
 use Rattle.cross_thread_region.specs.Histories.{entries_of, slots_of}
-use Rattle.cross_thread_region.specs.Calls.{RegionView, PassView, IsAnswered, entry_of, history_of}
+use Rattle.cross_thread_region.specs.Calls.{RegionView, PassView, IsCallAnswered, placed_entry_of, free_history}
 use Rattle.thread_queues.specs.declared.totals.Totals.{Totals}
 use Rattle.thread_queues.specs.Going.{HasSeenAll}
-use Rattle.thread_queues.specs.Orders.{OrderDone, HasMade, TellsTotals}
+use Rattle.thread_queues.specs.Orders.{OrderDone, HasMade, LineTellsTotals}
 use Rattle.thread_queues.proofs.Entries.{none_made}
 
 -- a call is answered by its entry, where memory isn't wanting
@@ -46,40 +46,40 @@ pub upgrade_entry : (j x y : ℕ) → MakesEntry j (O.Upgrade x y)
 upgrade_entry j x y region = read_entry j (O.Upgrade x y) (node_of (region_slot region x))
 
 entered : (j : ℕ) (op : Op) (old : RegionView) (pass : PassView) → pass.number ≡ j → IsThreadOp op
-    → (after : List PlacedEntry) → after ≡ history_of old ++ entry_of pass (history_of old) op 0 ∷ [] → IsLegal (entries_of after)
-    → HasMade j (history_of old) (entry_of pass (history_of old) op 0 ∷ []) after
+    → (after : List PlacedEntry) → after ≡ free_history old ++ placed_entry_of pass (free_history old) op 0 ∷ [] → IsLegal (entries_of after)
+    → HasMade j (free_history old) (placed_entry_of pass (free_history old) op 0 ∷ []) after
 entered j op old pass number thread_op after grown legal = record {
   grown = grown;
   legal = λ l. legal;
   own =
-      All-cons (λ (entry : Entry). (entry.thread ≡ j) × IsThreadOp entry.op) (entry_of pass (history_of old) op 0).entry [] (number, thread_op)
+      All-cons (λ (entry : Entry). (entry.thread ≡ j) × IsThreadOp entry.op) (placed_entry_of pass (free_history old) op 0).entry [] (number, thread_op)
       (All-nil (λ (entry : Entry). (entry.thread ≡ j) × IsThreadOp entry.op));
 }
 
 -- an order was done by its call
 pub order_called : (j : ℕ) (order : Order) (totals : Totals) (op : Op) (old : RegionView) (pass : PassView) (reply : Reply) (new : RegionView) (passed : PassView) (line : Line)
-    → op_of order ≡ Some op → IsThreadOp op → MakesEntry j op → HasSeenAll old pass j → IsAnswered old pass op 0 reply new passed → line ≡ L.Reply j reply
-    → OrderDone j order totals (history_of old) (history_of new) line
+    → op_of order ≡ Some op → IsThreadOp op → MakesEntry j op → HasSeenAll old pass j → IsCallAnswered old pass op 0 reply new passed → line ≡ L.Reply j reply
+    → OrderDone j order totals (free_history old) (free_history new) line
 order_called j order totals op old pass reply new passed text is thread_op makes s call tells = elim call [
   | inl r ↦ record {
     made = [];
-    has_made = subst (HasMade j (history_of old) []) (sym (ap (λ (v : RegionView). history_of v) r.region)) (none_made j (history_of old));
+    has_made = subst (HasMade j (free_history old) []) (sym (ap (λ (v : RegionView). free_history v) r.region)) (none_made j (free_history old));
     answer = Replied reply;
     answers_order = subst (λ o. AnswersOrder o (Replied reply)) (sym is) tt;
     entries = sym (ap (λ o. S.entry_of j o (Replied reply)) is ∙ ap (λ a. S.entry_of j (Some op) (Replied a)) r.reply_is);
     line_is = tells;
-    told = subst (TellsTotals totals) (sym tells) tt;
+    told = subst (LineTellsTotals totals) (sym tells) tt;
   }
   | inr e ↦ record {
-    made = entry_of pass (history_of old) op 0 ∷ [];
-    has_made = entered j op old pass s.number_is thread_op (history_of new) (ap (λ (v : RegionView). history_of v) e.region) e.legal;
+    made = placed_entry_of pass (free_history old) op 0 ∷ [];
+    has_made = entered j op old pass s.number_is thread_op (free_history new) (ap (λ (v : RegionView). free_history v) e.region) e.legal;
     answer = Replied reply;
     answers_order = subst (λ o. AnswersOrder o (Replied reply)) (sym is) tt;
     entries =
-        ap (λ n. record { thread = n; op = op; reply = reply_of (slots_of (history_of old)) op } ∷ []) s.number_is
-        ∙ sym (ap (λ o. S.entry_of j o (Replied reply)) is ∙ ap (λ a. S.entry_of j (Some op) (Replied a)) e.reply_is ∙ makes (slots_of (history_of old)));
+        ap (λ n. record { thread = n; op = op; reply = reply_of (slots_of (free_history old)) op } ∷ []) s.number_is
+        ∙ sym (ap (λ o. S.entry_of j o (Replied reply)) is ∙ ap (λ a. S.entry_of j (Some op) (Replied a)) e.reply_is ∙ makes (slots_of (free_history old)));
     line_is = tells;
-    told = subst (TellsTotals totals) (sym tells) tt;
+    told = subst (LineTellsTotals totals) (sym tells) tt;
   }
 ]
 

@@ -10,7 +10,7 @@ use Rattle.gc_graph.specs.RegionSteps.{Answer, AnswersOrder, HasDone, entry_of, 
 use Rattle.cross_thread_region.specs.declared.chronicle.PlacedEntry.{PlacedEntry}
 use Rattle.cross_thread_region.specs.Histories.{entries_of}
 use Rattle.thread_queues.specs.declared.totals.Totals.{Totals}
-use Rattle.thread_queues.specs.Orders.{OrderDone, ThreadDone, TellsTotals}
+use Rattle.thread_queues.specs.Orders.{OrderDone, ThreadDone, LineTellsTotals}
 use Rattle.thread_queues.proofs.Entries.{entries_append, none_made, made_on}
 
 done_next : (j : ℕ) (orders : List Order) (answers : List Answer) (entries : List Entry) (order : Order) (answer : Answer) → HasDone j orders answers entries
@@ -63,5 +63,5 @@ thread_next j orders order totals a b c old mid new line t o e = record {
       e ∙ ap (λ l. mid ++ l ∷ []) o.line_is ∙ ap (λ l. l ++ reply_line j o.answer ∷ []) t.replies
       ∙ append_assoc old (map (reply_line j) t.answers) (reply_line j o.answer ∷ [])
       ∙ ap (λ l. old ++ l) (sym (map-append (reply_line j) t.answers (o.answer ∷ [])));
-  told = λ all. subst (All (TellsTotals totals)) (sym e) (All-push (TellsTotals totals) mid line (t.told all) o.told);
+  told = λ all. subst (All (LineTellsTotals totals)) (sym e) (All-push (LineTellsTotals totals) mid line (t.told all) o.told);
 }

@@ -6,11 +6,11 @@ use Rattle.std.proofs.lemmas.List.{append-nil, length-append, nil_from_length}
 use Rattle.std.proofs.Math.Seq.{take-append_seam}
 use Rattle.gc_graph.specs.Members.{Contains-head}
 use Rattle.cross_thread_region.specs.declared.chronicle.PlacedEntry.{PlacedEntry}
-use Rattle.cross_thread_region.specs.Calls.{RegionView, PassView, IsReady, Begins, split_off, joined_with, history_of, longer}
+use Rattle.cross_thread_region.specs.Calls.{RegionView, PassView, IsPassReady, Begins, split_off, pass_joined_with, free_history, longer}
 use Rattle.thread_queues.specs.Going.{HasSeenAll}
 
 -- the pass that was split off has seen the whole history too
-pub split_seen : (j : ℕ) (region : RegionView) (pass own : PassView) → HasSeenAll region pass 0 → own ≡ split_off pass j → IsReady region own → HasSeenAll region own j
+pub split_seen : (j : ℕ) (region : RegionView) (pass own : PassView) → HasSeenAll region pass 0 → own ≡ split_off pass j → IsPassReady region own → HasSeenAll region own j
 split_seen j region pass own s is ready = record {
   ready = ready;
   slots = s.slots;
@@ -21,12 +21,12 @@ split_seen j region pass own s is ready = record {
 
 -- the first pass is still one of the region, once another one has made entries
 pub still_ready : (old new : RegionView) (pass split : PassView) (made : List PlacedEntry) → HasSeenAll old pass 0 → split.seen ≡ pass.seen
-    → history_of new ≡ history_of old ++ made → IsSome new.inside → IsReady new split
+    → free_history new ≡ free_history old ++ made → IsSome new.inside → IsPassReady new split
 still_ready old new pass split made s same grown free = record {
   free = free;
   is_pass =
-      subst (λ seen. Begins seen (history_of new)) (sym (same ∙ s.seen_all))
-      (subst (Begins (history_of old)) (sym grown) (take-append_seam (history_of old) made));
+      subst (λ seen. Begins seen (free_history new)) (sym (same ∙ s.seen_all))
+      (subst (Begins (free_history old)) (sym grown) (take-append_seam (free_history old) made));
 }
 
 -- the number of the pass that was split off is out
@@ -47,8 +47,8 @@ none_left j k e = ap (λ b. cond (not b) (j ∷ []) []) (eq-eqb j k (sym e))
 
 -- after the join the first pass has seen the whole history again, and no other one is out
 pub joined_seen : (j : ℕ) (old new : RegionView) (pass split own joined : PassView) (made : List PlacedEntry) → HasSeenAll old pass 0
-    → split ≡ record pass { out = j ∷ pass.out } → HasSeenAll new own j → history_of new ≡ history_of old ++ made → joined ≡ joined_with split own
-    → IsReady new joined → HasSeenAll new joined 0
+    → split ≡ record pass { out = j ∷ pass.out } → HasSeenAll new own j → free_history new ≡ free_history old ++ made → joined ≡ pass_joined_with split own
+    → IsPassReady new joined → HasSeenAll new joined 0
 joined_seen j old new pass split own joined made s out o grown is ready = record {
   ready = ready;
   slots = o.slots;
@@ -58,5 +58,5 @@ joined_seen j old new pass split own joined made s out o grown is ready = record
       ∙ ap (λ l. filter (λ number. not (eqb number own.number)) (j ∷ l)) s.none_out ∙ none_left j own.number o.number_is;
   seen_all =
       ap (λ (p : PassView). p.seen) is ∙ ap (λ (p : PassView). longer p.seen own.seen) out ∙ ap (λ l. longer l own.seen) s.seen_all
-      ∙ ap (longer (history_of old)) (o.seen_all ∙ grown) ∙ longer_is (history_of old) made ∙ sym grown;
+      ∙ ap (longer (free_history old)) (o.seen_all ∙ grown) ∙ longer_is (free_history old) made ∙ sym grown;
 }

@@ -18,7 +18,7 @@ use Rattle.cross_thread_region.specs.Histories.{entries_of}
 use Rattle.thread_queues.specs.declared.totals.Totals.{Totals}
 use Rattle.thread_queues.specs.Queues.{queue_in, threads_in}
 use Rattle.thread_queues.specs.Going.{HaveGone}
-use Rattle.thread_queues.specs.Orders.{ThreadDone, TellsTotals}
+use Rattle.thread_queues.specs.Orders.{ThreadDone, LineTellsTotals}
 use Rattle.thread_queues.proofs.Threads.{has_orders, threads_to, flat_next}
 use Rattle.thread_queues.proofs.Entries.{all_entries, by_first, by_last}
 use Rattle.thread_queues.proofs.Done.{none_answered, none_entered}
@@ -37,7 +37,7 @@ pub record HaveGoneTo (queues : List (List Order)) (i : ℕ) (totals : Totals) (
   pub answers : ℕ → List Answer
   pub done : (j : ℕ) → 1 ≤ j → j ≤ i → HasDone j (queue_in queues j) (answers j) (entries_by j (entries_of made))
   pub replies_are : replies ≡ flat_map (λ j. map (reply_line j) (answers j)) (threads_to queues i)
-  pub told : All (TellsTotals totals) replies
+  pub told : All (LineTellsTotals totals) replies
 
 -- the room that is left for the replies of a thread and of those after it
 pub room_next : (queues : List (List Order)) (i : ℕ) → i < length queues
@@ -56,7 +56,7 @@ gone_none queues totals history replies e = record {
   answers = λ j. [];
   done = λ j l h. absurd (omega (arith, l, h));
   replies_are = e;
-  told = subst (All (TellsTotals totals)) (sym e) (All-nil (TellsTotals totals));
+  told = subst (All (LineTellsTotals totals)) (sym e) (All-nil (LineTellsTotals totals));
 }
 
 module _ (queues : List (List Order)) (i : ℕ) (totals : Totals) (a b c : List PlacedEntry) (mid new : List Line) (inside : i < 8)
@@ -146,5 +146,5 @@ gone_all queues i totals before after replies h e = let g = subst (λ k. HaveGon
   answers = g.answers;
   done = λ j c. let r = in_range 1 8 j (was_in (has_orders queues) (range_with_len 1 8) j c) in g.done j r.0 (omega (arith, r.1));
   replies_are = g.replies_are;
-  told = λ j o n u f c. All-contains (TellsTotals totals) replies (L.ReplyTotals j o n u f) g.told c;
+  told = λ j o n u f c. All-contains (LineTellsTotals totals) replies (L.ReplyTotals j o n u f) g.told c;
 }

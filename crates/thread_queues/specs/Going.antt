@@ -10,17 +10,17 @@ use Rattle.gc_graph.specs.Outcomes.{IsThreadOp}
 use Rattle.gc_graph.specs.RegionSteps.{Answer, HasDone, entries_by, reply_line}
 use Rattle.cross_thread_region.specs.declared.chronicle.PlacedEntry.{PlacedEntry}
 use Rattle.cross_thread_region.specs.Histories.{entries_of}
-use Rattle.cross_thread_region.specs.Calls.{RegionView, PassView, IsReady, history_of}
+use Rattle.cross_thread_region.specs.Calls.{RegionView, PassView, IsPassReady, free_history}
 use Rattle.thread_queues.specs.declared.totals.Totals.{Totals}
 use Rattle.thread_queues.specs.Queues.{queue_in, threads_in}
 
 -- the pass with this number may call a region of 32 slots and has seen its whole history, and no pass that was split off it is out
 pub record HasSeenAll (region : RegionView) (pass : PassView) (number : ℕ) : Type 0 where
-  pub ready : IsReady region pass
+  pub ready : IsPassReady region pass
   pub slots : region.slots ≡ 32
   pub number_is : pass.number ≡ number
   pub none_out : pass.out ≡ []
-  pub seen_all : pass.seen ≡ history_of region
+  pub seen_all : pass.seen ≡ free_history region
 
 -- these are the totals
 abbrev pub AreTotals : Totals → ℕ → ℕ → ℕ → ℕ → Type 0

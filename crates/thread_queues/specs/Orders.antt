@@ -13,9 +13,9 @@ use Rattle.thread_queues.specs.declared.totals.Totals.{Totals}
 use Rattle.thread_queues.specs.Going.{AreTotals}
 
 -- a line that tells totals tells these
-abbrev pub TellsTotals : Totals → Line → Type 0
-TellsTotals totals (L.ReplyTotals j o n u f) = AreTotals totals o n u f
-TellsTotals totals _ = ⊤
+abbrev pub LineTellsTotals : Totals → Line → Type 0
+LineTellsTotals totals (L.ReplyTotals j o n u f) = AreTotals totals o n u f
+LineTellsTotals totals _ = ⊤
 
 -- thread j made these entries, which are the next ones of the history
 pub record HasMade (j : ℕ) (before made after : List PlacedEntry) : Type 0 where
@@ -31,7 +31,7 @@ pub record OrderDone (j : ℕ) (order : Order) (totals : Totals) (before after :
   pub answers_order : AnswersOrder (op_of order) answer
   pub entries : entries_of made ≡ entry_of j (op_of order) answer
   pub line_is : line ≡ reply_line j answer
-  pub told : TellsTotals totals line
+  pub told : LineTellsTotals totals line
 
 -- thread j has done its orders, and the lines that came to these replies tell how they were answered
 pub record ThreadDone (j : ℕ) (orders : List Order) (totals : Totals) (before after : List PlacedEntry) (old new : List Line) : Type 0 where
@@ -40,4 +40,4 @@ pub record ThreadDone (j : ℕ) (orders : List Order) (totals : Totals) (before 
   pub answers : List Answer
   pub done : HasDone j orders answers (entries_of made)
   pub replies : new ≡ old ++ map (reply_line j) answers
-  pub told : All (TellsTotals totals) old → All (TellsTotals totals) new
+  pub told : All (LineTellsTotals totals) old → All (LineTellsTotals totals) new

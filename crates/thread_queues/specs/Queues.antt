@@ -35,7 +35,7 @@ queues_left queues running = map (λ j. if list_any (λ k. k == j) running then 
 -- ---- what the crate's own code cites
 
 -- there are eight queues, so many orders in all, and room for a reply to each
-pub record HasRoom (queues : List (List Order)) (orders room : ℕ) : Type 0 where
+pub record QueuesHaveRoom (queues : List (List Order)) (orders room : ℕ) : Type 0 where
   pub eight : length queues ≡ 8
   pub counted : orders ≡ sum_by length queues
   pub room_for_all : orders ≤ room

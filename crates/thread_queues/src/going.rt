@@ -3,7 +3,7 @@
 ghost use Rattle.std.specs.Prelude.{◌≡◌, ◌+◌, ◌≤◌, [], All, length, sum_by, vec_len, vec_capacity};
 ghost use Rattle.gc_graph.specs.Lawful.{IsAllowedOrder};
 ghost use Rattle.gc_graph.specs.declared.line.Line.TheVariants as L;
-ghost use Rattle.cross_thread_region.specs.Calls.{history_of};
+ghost use Rattle.cross_thread_region.specs.Calls.{free_history};
 ghost use Rattle.thread_queues.specs.Going.{HasSeenAll, HaveGone};
 ghost use Rattle.thread_queues.specs.Orders.{OrderDone, ThreadDone};
 
@@ -25,8 +25,8 @@ pub(crate) fn go_all(
     requires pass { HasSeenAll region.old pass.old 0 }
     requires none { replies.old.items ≡ [] }
     requires room { sum_by length queues.now.items ≤ vec_capacity replies.old }
-    ensures went { HaveGone queues.now.items totals (history_of region.old)
-        (history_of region.new) replies.new.items }
+    ensures went { HaveGone queues.now.items totals (free_history region.old)
+        (free_history region.new) replies.new.items }
     ensures pass { HasSeenAll region.new pass.new 0 }
     ensures room { vec_capacity replies.new ≡ vec_capacity replies.old }
 {
@@ -56,8 +56,8 @@ fn go(
     requires allowed { All IsAllowedOrder orders.now }
     requires pass { HasSeenAll region.old pass.old 0 }
     requires room { vec_len replies.old + length orders.now ≤ vec_capacity replies.old }
-    ensures done { ThreadDone thread orders.now totals (history_of region.old)
-        (history_of region.new) replies.old.items replies.new.items }
+    ensures done { ThreadDone thread orders.now totals (free_history region.old)
+        (free_history region.new) replies.old.items replies.new.items }
     ensures pass { HasSeenAll region.new pass.new 0 }
     ensures len { vec_len replies.new ≡ vec_len replies.old + length orders.now }
     ensures room { vec_capacity replies.new ≡ vec_capacity replies.old }
@@ -73,8 +73,8 @@ fn go(
 fn do_order(thread: u32, order: Order, region: &mut Region, own: &mut Pass, totals: Totals) -> Line
     requires allowed { IsAllowedOrder order }
     requires own { HasSeenAll region.old own.old thread }
-    ensures done { OrderDone thread order totals (history_of region.old)
-        (history_of region.new) result }
+    ensures done { OrderDone thread order totals (free_history region.old)
+        (free_history region.new) result }
     ensures own { HasSeenAll region.new own.new thread }
 {
     match order {

@@ -2,7 +2,7 @@
 
 ghost use Rattle.std.specs.Prelude.{◌≡◌, ◌≤◌, [], true, false, length, replicate, IfOk, OnOk, OnErr};
 ghost use Rattle.gc_graph.specs.Lawful.{IsAllowedOrder};
-ghost use Rattle.cross_thread_region.specs.Calls.{history_of};
+ghost use Rattle.cross_thread_region.specs.Calls.{free_history};
 ghost use Rattle.thread_queues.specs.Queues.{no_orders, with_order, threads_in, queues_left};
 ghost use Rattle.thread_queues.specs.Going.{HasSeenAll, HaveGone};
 
@@ -29,7 +29,7 @@ pub struct ThreadQueues {
 
 impl Model for ThreadQueues {
     ghost use Rattle.std.specs.Prelude.{[], if◌then◌else◌, vec_capacity};
-    ghost use Rattle.thread_queues.specs.Queues.{QueuesView, HasRoom, threads_in};
+    ghost use Rattle.thread_queues.specs.Queues.{QueuesView, QueuesHaveRoom, threads_in};
 
     ghost Value = { QueuesView };
 
@@ -40,7 +40,7 @@ impl Model for ThreadQueues {
       replies = q.replies.items;
     } };
 
-    ghost invariant = { λ q. HasRoom q.queues.items q.orders (vec_capacity q.replies) };
+    ghost invariant = { λ q. QueuesHaveRoom q.queues.items q.orders (vec_capacity q.replies) };
 }
 
 impl ThreadQueues {
@@ -83,8 +83,8 @@ impl ThreadQueues {
         ensures running { self.new.running ≡ threads_in self.old.queues }
         ensures awaiting { self.new.awaiting ≡ true }
         ensures count { result ≡ length self.new.running }
-        ensures went { HaveGone self.old.queues totals (history_of region.old)
-            (history_of region.new) self.new.replies }
+        ensures went { HaveGone self.old.queues totals (free_history region.old)
+            (free_history region.new) self.new.replies }
         ensures pass { HasSeenAll region.new pass.new 0 }
     {
         self.replies.clear();

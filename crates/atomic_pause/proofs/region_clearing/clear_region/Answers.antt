@@ -8,7 +8,7 @@ use Rattle.marker_core.specs.Bodies.{holds}
 use Rattle.persistent_slots.specs.Steady.{may_be_asked, answers_by}
 use Rattle.cross_thread_region.specs.Calls.{given_back}
 use Rattle.cross_thread_region.specs.Histories.{slots_of}
-use Rattle.cross_thread_region.specs.Pauses.{paused, dying_of}
+use Rattle.cross_thread_region.specs.Pauses.{history_paused, dying_of}
 use Rattle.cross_thread_region.specs.DyingSlots.{same_dying}
 use Rattle.atomic_pause.proofs.region_clearing.clear_region.Goals as goal
 
@@ -48,7 +48,7 @@ cleared : (c : goal.After-pause_end) → c.pause_end.result ≡ dying_of (λ a. 
 cleared c = exactly c ∙ unmarked c
 
 pub returns-clause-region : goal.returns-clause-region
-returns-clause-region c = c.pause_end.ensures.region ∙ ap (λ mask. given_back c.args.region.now (paused c.args.pass.now c.args.held mask)) (cleared c)
+returns-clause-region c = c.pause_end.ensures.region ∙ ap (λ mask. given_back c.args.region.now (history_paused c.args.pass.now c.args.held mask)) (cleared c)
 
 pub returns-clause-weak : goal.returns-clause-weak
 returns-clause-weak c = subst (λ mask. NamesWeakSlots mask (slots_of c.args.held)) (cleared c) c.pause_end.ensures.weak

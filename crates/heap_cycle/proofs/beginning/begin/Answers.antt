@@ -13,7 +13,7 @@ use Rattle.gc_graph.specs.State.{Setup, State}
 use Rattle.gc_graph.specs.Sweep.{SweepsToEnd}
 use Rattle.gc_graph.specs.ValidLaw.{StepKeepsValid}
 use Rattle.cross_thread_region.specs.declared.chronicle.PlacedEntry.{PlacedEntry}
-use Rattle.cross_thread_region.specs.Calls.{entry_of, first_pass, with_own}
+use Rattle.cross_thread_region.specs.Calls.{placed_entry_of, first_pass, history_with_own}
 use Rattle.cross_thread_region.specs.Histories.{entries_of}
 use Rattle.heap_roots.specs.Marking.{GreyView}
 use Rattle.heap_roots.specs.Objects.{ObjectsView, refused_of, setup_of_objects}
@@ -39,21 +39,21 @@ ended_shared s swept o h numbers same shared calm idle ended =
     (subst (λ (x : ObjectsView). HasShared (record s { objects = x }) h) (sym same) shared)
 
 -- the history with the start entry
-start_own : (counted start : List PlacedEntry) (h : Shared) → start ≡ with_own counted O.Start 0 → counted ≡ h.region → start ≡ with_own h.region O.Start 0
-start_own counted start h made_is same = made_is ∙ ap (λ (xs : List PlacedEntry). with_own xs O.Start 0) same
+start_own : (counted start : List PlacedEntry) (h : Shared) → start ≡ history_with_own counted O.Start 0 → counted ≡ h.region → start ≡ history_with_own h.region O.Start 0
+start_own counted start h made_is same = made_is ∙ ap (λ (xs : List PlacedEntry). history_with_own xs O.Start 0) same
 
 -- what is taken of it before the start entry
 may_take : (s swept : Parts) (o : ObjectsView) (h : Shared) (history : List PlacedEntry) (to : ℕ) → StepKeepsValid → 0 < s.objects.shape.pages → o ≡ s.objects
-    → setup_of swept ≡ setup_of_objects o → IsReady swept → HasShared swept h → history ≡ with_own h.region O.Start 0 → to ≡ length h.region → MayBeTaken swept h.taken to history
+    → setup_of swept ≡ setup_of_objects o → IsReady swept → HasShared swept h → history ≡ history_with_own h.region O.Start 0 → to ≡ length h.region → MayBeTaken swept h.taken to history
 may_take s swept o h history to law some same setup ready shared is count =
     let pages : swept.objects.shape.pages ≡ s.objects.shape.pages = ap (λ (st : Setup). st.shape.pages) setup ∙ ap (λ (x : ObjectsView). x.shape.pages) same in
-    may_be_taken swept h history (entry_of first_pass h.region O.Start 0 ∷ []) to law (omega (arith, some, pages)) ready shared is count
+    may_be_taken swept h history (placed_entry_of first_pass h.region O.Start 0 ∷ []) to law (omega (arith, some, pages)) ready shared is count
 
 -- and the state then
-state_taken : (swept mid : Parts) (h : Shared) (history : List PlacedEntry) (to : ℕ) → history ≡ with_own h.region O.Start 0 → to ≡ length h.region
+state_taken : (swept mid : Parts) (h : Shared) (history : List PlacedEntry) (to : ℕ) → history ≡ history_with_own h.region O.Start 0 → to ≡ length h.region
     → state_of mid ≡ took (state_of swept) (entries_between h.taken to history) → state_of mid ≡ took (state_of swept) (entries_of (ahead_of h))
 state_taken swept mid h history to is count state =
-    state ∙ ap (took (state_of swept)) (between_all h history (entry_of first_pass h.region O.Start 0 ∷ []) to is count)
+    state ∙ ap (took (state_of swept)) (between_all h history (placed_entry_of first_pass h.region O.Start 0 ∷ []) to is count)
 
 pub take_others-requires-clause-handled : goal.take_others-requires-clause-handled
 take_others-requires-clause-handled c =
@@ -129,8 +129,8 @@ returns-clause-begun c =
     ended_shared s swept c.reserve.new.self h c.end_sweep.new.finalised.items c.reserve.ensures c.requires.shared c.requires.calm c.end_sweep.ensures.idle c.end_sweep.ensures.swept in
     let taken : state_of mid ≡ took (state_of swept) es =
     state_taken swept mid h c.start.new.self c.len-made.result own c.len-made.ensures.count c.take_others.ensures.state in
-    let region : after.region ≡ with_own h.region O.Start 0 = c.take_others.ensures.region ∙ own in
-    let longer : length after.region ≡ length h.region + 1 = ap length region ∙ length-append h.region (entry_of first_pass h.region O.Start 0 ∷ []) in
+    let region : after.region ≡ history_with_own h.region O.Start 0 = c.take_others.ensures.region ∙ own in
+    let longer : length after.region ≡ length h.region + 1 = ap length region ∙ length-append h.region (placed_entry_of first_pass h.region O.Start 0 ∷ []) in
     let all : after.taken ≡ length after.region = omega (arith, longer, c.len-made.ensures.count) in
     record {
       swept = state_of swept;

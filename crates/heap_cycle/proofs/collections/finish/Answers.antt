@@ -13,7 +13,7 @@ use Rattle.gc_graph.specs.Outcomes.{answered, finalise_lines, took}
 use Rattle.gc_graph.specs.Pause.{dying_slots}
 use Rattle.gc_graph.specs.State.{Setup, State}
 use Rattle.cross_thread_region.specs.declared.chronicle.PlacedEntry.{PlacedEntry}
-use Rattle.cross_thread_region.specs.Calls.{entry_of, first_pass, with_own}
+use Rattle.cross_thread_region.specs.Calls.{placed_entry_of, first_pass, history_with_own}
 use Rattle.cross_thread_region.specs.Histories.{entries_of, slots_of}
 use Rattle.heap_roots.specs.Objects.{refused_of, told_of}
 use Rattle.heap_roots.specs.Refused.{IsToldTruly}
@@ -110,10 +110,10 @@ returns-clause-step g c =
     pause_after (setup_of s) m c.args.want (state_of s) (state_of mid) (state_of new) es second pause_lines c.requires.shared.ahead.others
     (subst (λ started. IsLegalFrom s.cycle.rest.region started es) marks c.requires.shared.ahead.legal) taken own in
     let op : Op = O.Pause (dying_slots new.objects.nodes (slots_of h.region)) in
-    let region : after.region ≡ with_own h.region op 0 =
-    subst (λ (xs : List PlacedEntry). after.region ≡ with_own xs (O.Pause (dying_slots new.objects.nodes (slots_of xs))) 0) same paused.entry.entry in
+    let region : after.region ≡ history_with_own h.region op 0 =
+    subst (λ (xs : List PlacedEntry). after.region ≡ history_with_own xs (O.Pause (dying_slots new.objects.nodes (slots_of xs))) 0) same paused.entry.entry in
     let all : after.taken ≡ length after.region =
-    omega (arith, c.len-made.ensures.count, ap length region, length-append h.region (entry_of first_pass h.region op 0 ∷ [])) in
+    omega (arith, c.len-made.ensures.count, ap length region, length-append h.region (placed_entry_of first_pass h.region op 0 ∷ [])) in
     let piece : made (taken_of h) (taken_of after) ≡ es ++ second = one_made op 0 h after c.requires.shared.threads.taken region all refl in
     step_finished (setup_of s) c.args.want (state_of s) (state_of new) (answered (state_of new)) (made (taken_of h) (taken_of after)) (lines_with out ran c.line_of.result)
     marks
@@ -159,10 +159,10 @@ returns-clause-shared g c =
     let marking : mid.cycle.phase ≡ Marking = ap (λ (p : Parts). p.cycle.phase) c.take_others.ensures.others ∙ phase_marks s.cycle.phase marks in
     let paused = c.pause-result.ensures.paused (setup_of s).markers (no_crew s mid c.take_others.ensures.ready marking (ap setup_of c.take_others.ensures.others)) in
     let op : Op = O.Pause (dying_slots new.objects.nodes (slots_of h.region)) in
-    let region : after.region ≡ with_own h.region op 0 =
-    subst (λ (xs : List PlacedEntry). after.region ≡ with_own xs (O.Pause (dying_slots new.objects.nodes (slots_of xs))) 0) same paused.entry.entry in
+    let region : after.region ≡ history_with_own h.region op 0 =
+    subst (λ (xs : List PlacedEntry). after.region ≡ history_with_own xs (O.Pause (dying_slots new.objects.nodes (slots_of xs))) 0) same paused.entry.entry in
     let all : after.taken ≡ length after.region =
-    omega (arith, c.len-made.ensures.count, ap length region, length-append h.region (entry_of first_pass h.region op 0 ∷ [])) in
+    omega (arith, c.len-made.ensures.count, ap length region, length-append h.region (placed_entry_of first_pass h.region op 0 ∷ [])) in
     subst (HasRegion new) (sym (ap (λ n. take n after.region) all ∙ take-length after.region)) paused.shared
 
 pub returns-clause-grown : goal.returns-clause-grown
@@ -177,8 +177,8 @@ returns-clause-grown g c =
     let marking : mid.cycle.phase ≡ Marking = ap (λ (p : Parts). p.cycle.phase) c.take_others.ensures.others ∙ phase_marks s.cycle.phase marks in
     let paused = c.pause-result.ensures.paused (setup_of s).markers (no_crew s mid c.take_others.ensures.ready marking (ap setup_of c.take_others.ensures.others)) in
     let op : Op = O.Pause (dying_slots new.objects.nodes (slots_of h.region)) in
-    let region : after.region ≡ with_own h.region op 0 =
-    subst (λ (xs : List PlacedEntry). after.region ≡ with_own xs (O.Pause (dying_slots new.objects.nodes (slots_of xs))) 0) same paused.entry.entry in
+    let region : after.region ≡ history_with_own h.region op 0 =
+    subst (λ (xs : List PlacedEntry). after.region ≡ history_with_own xs (O.Pause (dying_slots new.objects.nodes (slots_of xs))) 0) same paused.entry.entry in
     let all : after.taken ≡ length after.region =
-    omega (arith, c.len-made.ensures.count, ap length region, length-append h.region (entry_of first_pass h.region op 0 ∷ [])) in
+    omega (arith, c.len-made.ensures.count, ap length region, length-append h.region (placed_entry_of first_pass h.region op 0 ∷ [])) in
     inr (one_ahead op 0 h after c.requires.shared.threads.taken region all refl)

@@ -2,7 +2,7 @@ use Rattle.std.proofs.Common.{rules, ◌≡◌, ◌+◌, ◌<◌, List, [], All,
 use Rattle.std.proofs.lemmas.List.{get_or_default}
 use Rattle.gc_graph.specs.declared.command.Order.{Order}
 use Rattle.gc_graph.specs.Lawful.{IsAllowedOrder}
-use Rattle.cross_thread_region.specs.Calls.{history_of}
+use Rattle.cross_thread_region.specs.Calls.{free_history}
 use Rattle.thread_queues.specs.Orders.{ThreadDone}
 use Rattle.thread_queues.proofs.Threads.{next_queue}
 use Rattle.thread_queues.proofs.Through.{gone_none, gone_next, gone_all, room_next}
@@ -38,7 +38,7 @@ loop-i-preserved c =
     record {
       gone =
           gone_next _ _ _ _ _ _ _ _ (omega (arith, inside, c.requires.eight)) c.loop-i.invariant.gone
-          (subst (λ (orders : List Order). ThreadDone (c.loop-i.i + 1) orders c.args.totals (history_of c.loop-i.region) (history_of c.go.new.region) c.loop-i.replies.items c.go.new.replies.items)
+          (subst (λ (orders : List Order). ThreadDone (c.loop-i.i + 1) orders c.args.totals (free_history c.loop-i.region) (free_history c.go.new.region) c.loop-i.replies.items c.go.new.replies.items)
           (same ∙ sym (next_queue c.args.queues.now.items c.loop-i.i)) c.go.ensures.done);
       pass = c.go.ensures.pass;
       room = c.go.ensures.room ∙ c.loop-i.invariant.room;
