@@ -5,7 +5,7 @@ use Rattle.std.proofs.lemmas.Bool.{true≢false, cases_Bool}
 use Rattle.std.proofs.lemmas.List.{append-nil, append_assoc, map-append}
 use Rattle.std.proofs.lemmas.List.Elements.{Contains-append_left, Contains-append_right, Contains-append_cases, Contains-push, Contains-push_cases}
 use Rattle.gc_graph.specs.State.{ObjectType}
-use Rattle.mark_worklist.specs.Lists.{last_count}
+use Rattle.mark_worklist.specs.Shares.{last_count}
 use Rattle.mark_worklist.specs.Told.{told_same, told_once, told_then}
 use Rattle.marker_core.specs.declared.states.Body.{Body}
 use Rattle.pair_notes.specs.declared.notes.Note.{Note}

@@ -11,7 +11,7 @@ use Rattle.gc_graph.specs.declared.region.Op.TheVariants as O
 use Rattle.cross_thread_region.specs.declared.chronicle.PlacedEntry.{PlacedEntry}
 use Rattle.cross_thread_region.specs.Histories.{strong_place}
 use Rattle.gc_graph.specs.CycleSteps.{IsPause, IsStart}
-use Rattle.mark_worklist.specs.Lists.{last_count}
+use Rattle.mark_worklist.specs.Shares.{last_count}
 use Rattle.marker_core.specs.Bodies.{holds}
 use Rattle.heap_roots.specs.Region.{HasPauseEntry}
 use Rattle.heap_roots.specs.Refused.{RefusalsTold, IsToldTruly}

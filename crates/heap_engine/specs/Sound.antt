@@ -8,7 +8,7 @@ use Rattle.page_words.specs.Seat.{SeatView}
 use Rattle.cross_thread_region.specs.Histories.{entries_of}
 use Rattle.heap_cycle.specs.PlacesInWords.{kept_of}
 use Rattle.mark_worklist.specs.Families.{at}
-use Rattle.mark_worklist.specs.Shares.{taken_of as items_taken}
+use Rattle.mark_worklist.specs.Shares.{taken_by_share}
 use Rattle.heap_cycle.specs.Marking.{GreyView}
 use Rattle.heap_cycle.specs.Objects.{told_of}
 use Rattle.heap_engine.specs.declared.heap_core.Core.TheInside.{Inside}
@@ -22,7 +22,7 @@ use Rattle.heap_engine.specs.Going.{AreTotalsOf, HasTold}
 -- what the owner did with the items of lists with shares
 abbrev pub items_of : SeatView → GreyView → Items
 items_of v g = record {
-  taken = items_taken (at g.marking.list.shares 0);
+  taken = taken_by_share (at g.marking.list.shares 0);
   claimed = v.traced;
   found = g.found;
   notes = g.notes.notes;

@@ -11,17 +11,16 @@ use Rattle.gc_graph.specs.Members.{holds_from, in_from_holds}
 use Rattle.gc_graph.specs.State.{ObjectType}
 use Rattle.gc_graph.specs.declared.kind.Kind.TheVariants.{Pair}
 use Rattle.type_table.specs.Types.{declared_kinds}
-use Rattle.mark_worklist.specs.Lists.{last_count}
 use Rattle.mark_worklist.specs.Refusals.{TellsRefused}
 use Rattle.mark_worklist.specs.Told.{told_same, told_then}
 use Rattle.mark_worklist.specs.declared.marking.Marking.{Marking}
 use Rattle.marker_core.specs.Bodies.{IsPlace, holds, word_in}
-use Rattle.marker_core.specs.Views.{times as places_at}
+use Rattle.marker_core.specs.Views.{times}
 use Rattle.page_words.specs.Markers.{MarkerSeatView, new_marker}
 use Rattle.page_words.specs.Seat.{SeatView, IsView}
 use Rattle.mark_worklist.specs.Families.{at, nobody, IsFresh}
-use Rattle.mark_worklist.specs.Joining.{IsTaken, put_by, taken_by, refused_by}
-use Rattle.mark_worklist.specs.Shares.{ShareState, put_of, taken_of, times}
+use Rattle.mark_worklist.specs.Joining.{IsTakenOrLeft, put_by, taken_by, refused_by}
+use Rattle.mark_worklist.specs.Shares.{ShareState, put_of, taken_by_share, times_listed, last_count}
 use Rattle.marker_crew.specs.Note.{Note}
 use Rattle.marker_crew.specs.BodyGraph.{HasPair, PlacesDiffer}
 use Rattle.marker_crew.specs.BodyLeads.{role_of_offset}
@@ -54,7 +53,7 @@ module _ (v : SeatView) (g : GreyView) (ends : List Ending) (w : SeatView) (n : 
     (each : (k : ℕ) (b : Marker) (e : Ending) → k < length ends → HasDrained (get_or g.running k b) (get_or ends k e))
     (seat : w ≡ joined_with_all v (map (λ e. e.seat) ends)) (lent : w.lent ≡ 0) (view : IsView w)
     (on : n.on ≡ g.marking.on) (whole : n.list.whole ≡ true)
-    (taken : IsTaken (g.marking.list.shares ++ map (λ e. e.share) ends) n.list.items)
+    (taken : IsTakenOrLeft (g.marking.list.shares ++ map (λ e. e.share) ends) n.list.items)
     (refused : n.list.refused ≡ min (refused_by (g.marking.list.shares ++ map (λ e. e.share) ends)) last_count)
     (kept : g.marking.overflow ≡ true → n.overflow ≡ true)
     (raised : n.list.refused ≢ g.marking.list.refused → n.overflow ≡ true)
@@ -218,8 +217,8 @@ module _ (v : SeatView) (g : GreyView) (ends : List Ending) (w : SeatView) (n : 
   none_in : {X : Type 0} (l : List X) (x : X) → l ≡ [] → Contains l x → ⊥
   none_in l x none there = omega (arith, (subst (λ k. Contains k x) none there).1)
 
-  none_taken : (k : ℕ) → k < length ends → (p : ℕ) → Contains (taken_of (began k).share) p → ⊥
-  none_taken k low p there = none_in (taken_of (began k).share) p (nothing_taken (began k).share (fresh k low)) there
+  none_taken : (k : ℕ) → k < length ends → (p : ℕ) → Contains (taken_by_share (began k).share) p → ⊥
+  none_taken k low p there = none_in (taken_by_share (began k).share) p (nothing_taken (began k).share (fresh k low)) there
 
   -- ---- what was put was marked
 
@@ -239,13 +238,13 @@ module _ (v : SeatView) (g : GreyView) (ends : List Ending) (w : SeatView) (n : 
   left_is_put : (p : ℕ) → Contains n.list.items p → Contains (put_by (g.marking.list.shares ++ shares)) p
   left_is_put p there = some_times p (put_by (g.marking.list.shares ++ shares)) (omega (arith, times_some p n.list.items there, taken.even p))
 
-  taken_by_own : (p : ℕ) → Contains (taken_of (at g.marking.list.shares 0)) p → Contains (taken_by (g.marking.list.shares ++ shares)) p
+  taken_by_own : (p : ℕ) → Contains (taken_by_share (at g.marking.list.shares 0)) p → Contains (taken_by (g.marking.list.shares ++ shares)) p
   taken_by_own p there =
-      in_all taken_of (g.marking.list.shares ++ shares) nobody p 0 (omega (arith, all_many)) (subst (λ s. Contains (taken_of s) p) (sym at_own) there)
+      in_all taken_by_share (g.marking.list.shares ++ shares) nobody p 0 (omega (arith, all_many)) (subst (λ s. Contains (taken_by_share s) p) (sym at_own) there)
 
-  taken_by_end : (p k : ℕ) → k < length ends → Contains (taken_of (ended k).share) p → Contains (taken_by (g.marking.list.shares ++ shares)) p
+  taken_by_end : (p k : ℕ) → k < length ends → Contains (taken_by_share (ended k).share) p → Contains (taken_by (g.marking.list.shares ++ shares)) p
   taken_by_end p k low there =
-      in_all taken_of (g.marking.list.shares ++ shares) nobody p (suc k) (omega (arith, all_many, low)) (subst (λ s. Contains (taken_of s) p) (sym (at_end k low)) there)
+      in_all taken_by_share (g.marking.list.shares ++ shares) nobody p (suc k) (omega (arith, all_many, low)) (subst (λ s. Contains (taken_by_share s) p) (sym (at_end k low)) there)
 
   place_of_put : (p : ℕ) → Contains (put_by (g.marking.list.shares ++ shares)) p → IsPlace w.bodies p
   place_of_put p there = view.marked_are_bodies p (put_is_marked p there)
@@ -302,7 +301,7 @@ module _ (v : SeatView) (g : GreyView) (ends : List Ending) (w : SeatView) (n : 
     untraced p white = false_from_ne_true (holds v.traced p) (λ held. true≢false (sym (traced_before p held) ∙ white))
 
     dealt : (p : ℕ) → holds w.traced p ≡ false → Contains (taken_by (g.marking.list.shares ++ shares)) p → IsNotedIn groups (note_of p 0)
-    dealt p white there = elim (of_share taken_of p there) [
+    dealt p white there = elim (of_share taken_by_share p there) [
       | inl own ↦ elim (out.taken notes_fine p own) [
         | inl traced ↦ absurd (true≢false (sym (traced_before p traced) ∙ white))
         | inr other ↦ elim other [
@@ -324,7 +323,7 @@ module _ (v : SeatView) (g : GreyView) (ends : List Ending) (w : SeatView) (n : 
 
     left_or_noted : (p : ℕ) → holds w.traced p ≡ false → Contains (put_by (g.marking.list.shares ++ shares)) p
         → Contains n.list.items p ⊎ IsNotedIn groups (note_of p 0)
-    left_or_noted p white put = elim (cases_lt 0 (times p n.list.items)) [
+    left_or_noted p white put = elim (cases_lt 0 (times_listed p n.list.items)) [
       | inl left ↦ inl (some_times p n.list.items (omega (arith, left)))
       | inr none ↦ inr (dealt p white (some_times p (taken_by (g.marking.list.shares ++ shares))
           (omega (arith, none, taken.even p, times_some p (put_by (g.marking.list.shares ++ shares)) put))))
@@ -447,7 +446,7 @@ module _ (v : SeatView) (g : GreyView) (ends : List Ending) (w : SeatView) (n : 
       let traced_is : w.traced ≡ v.traced ++ more = ap (λ (x : SeatView). x.traced) is in
       let same : w.bodies ≡ v.bodies = ap (λ (x : SeatView). x.bodies) is in
       ap traced_count is
-      ∙ traced_more v.traced more v.bodies differ (λ a. subst (λ l. places_at a l ≤ 1) traced_is (view.traced_once a))
+      ∙ traced_more v.traced more v.bodies differ (λ a. subst (λ l. times a l ≤ 1) traced_is (view.traced_once a))
       (λ a there. subst (λ bs. IsPlace bs a) same (view.traced_are_bodies a (ap (λ l. holds l a) traced_is ∙ held_second v.traced more a (holds_from more a there))))
       ∙ ap (λ c. traced_count v + c) traced_all
 

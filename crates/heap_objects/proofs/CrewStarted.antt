@@ -14,7 +14,7 @@ use Rattle.page_words.specs.Markers.{MarkerSeatView, new_marker}
 use Rattle.page_words.specs.Seat.{SeatView}
 use Rattle.mark_worklist.specs.Families.{at, nobody}
 use Rattle.mark_worklist.specs.Joining.{AreFresh}
-use Rattle.mark_worklist.specs.Shares.{ShareState, put_of, taken_of}
+use Rattle.mark_worklist.specs.Shares.{ShareState, put_of, taken_by_share}
 use Rattle.marker_crew.specs.Notes.{NotesState, group_at}
 use Rattle.atomic_pause.specs.UnderWay.{IsUnderWay}
 use Rattle.marker_crew.specs.Crews.{CrewState, Marker, begun_with, started_with}
@@ -119,10 +119,10 @@ module _ (v : SeatView) (g : GreyView) (list : ListState) (shares : List ShareSt
   own_fresh : at (list.shares ++ shares) 0 ≡ at list.shares 0
   own_fresh = get_or_append_left list.shares shares nobody 0 there
 
-  took_nothing : taken_of (at m.list.shares 0) ≡ []
+  took_nothing : taken_by_share (at m.list.shares 0) ≡ []
   took_nothing =
       r.puts.taken shared.whole there
-      ∙ ap taken_of (sym own_fresh) ∙ nothing_taken (at (list.shares ++ shares) 0) (shared.fresh.fresh 0 nobody (omega (arith, length-append list.shares shares, one)))
+      ∙ ap taken_by_share (sym own_fresh) ∙ nothing_taken (at (list.shares ++ shares) 0) (shared.fresh.fresh 0 nobody (omega (arith, length-append list.shares shares, one)))
 
   module _ (way : IsUnderWay v g.marking g.notes) (crew : HasCrew v g) where
     home : IsHome g

@@ -8,7 +8,7 @@ use Rattle.std.proofs.lemmas.List.Elements.{All-weaker, Contains-append_cases, C
 use Rattle.gc_graph.specs.Members.{holds_from, in_from_holds}
 use Rattle.gc_graph.specs.declared.kind.Kind.TheVariants.{Pair}
 use Rattle.type_table.specs.Types.{declared_kinds, offsets_of_kind}
-use Rattle.mark_worklist.specs.Lists.{ListState, as_own, last_count}
+use Rattle.mark_worklist.specs.Lists.{ListState, as_own}
 use Rattle.mark_worklist.specs.Refusals.{TellsRefused}
 use Rattle.mark_worklist.specs.declared.marking.Marking.{Marking}
 use Rattle.marker_core.specs.Bodies.{IsPlace, holds}
@@ -20,7 +20,7 @@ use Rattle.page_words.specs.Seat.{Heap, SeatView, IsStill, IsView}
 use Rattle.mark_worklist.specs.Families.{at, nobody}
 use Rattle.mark_worklist.specs.Joining.{IsSameList}
 use Rattle.mark_worklist.specs.Kept.{list-then}
-use Rattle.mark_worklist.specs.Shares.{ShareState, IsSameShare, put_of, taken_of}
+use Rattle.mark_worklist.specs.Shares.{ShareState, IsSameShare, put_of, taken_by_share, last_count}
 use Rattle.marker_crew.specs.Note.{Note}
 use Rattle.marker_crew.specs.BodyGraph.{HasPair, PlacesDiffer}
 use Rattle.marker_crew.specs.BodyLeads.{offset_told}
@@ -214,7 +214,7 @@ module _ (v : SeatView) (g : GreyView) (m : MarkerSeatView) (k : ShareState) (o 
     first = subst (λ s. IsSameShare h s) (sym own_now) works.later.lists;
   }
 
-  lone : (note : Note) → Contains o.notes note → note.word ≡ 0 → Contains (taken_of k) note.holder × (Contains w.missed note.holder ⊎ (w.count ≤ note.holder))
+  lone : (note : Note) → Contains o.notes note → note.word ≡ 0 → Contains (taken_by_share k) note.holder × (Contains w.missed note.holder ⊎ (w.count ≤ note.holder))
   lone note there itself = elim (works.notes note there) [
     | inl before ↦
         (let was = out.lone note before itself in (
@@ -233,7 +233,7 @@ module _ (v : SeatView) (g : GreyView) (m : MarkerSeatView) (k : ShareState) (o 
     ]
   ]
 
-  dealt : o.overflow ≡ false → (p : ℕ) → Contains (taken_of k) p → (holds w.traced p ≡ true) ⊎ (Contains found p ⊎ Contains o.notes (note_of p 0))
+  dealt : o.overflow ≡ false → (p : ℕ) → Contains (taken_by_share k) p → (holds w.traced p ≡ true) ⊎ (Contains found p ⊎ Contains o.notes (note_of p 0))
   dealt none p there = elim (taken p there) [
     | inl before ↦ elim (out.taken (notes_before none) p before) [
       | inl traced ↦ inl (traced_before p traced)
@@ -261,8 +261,8 @@ module _ (v : SeatView) (g : GreyView) (m : MarkerSeatView) (k : ShareState) (o 
     since = out.since;
     put = λ p there. subst (λ s. Contains (put_of s) p) (sym own_now) (subst (λ l. Contains l p) items_now there);
     marked = λ p there. put_is_marked p (subst (λ s. Contains (put_of s) p) own_now there);
-    taken = λ none p there. dealt none p (subst (λ s. Contains (taken_of s) p) own_now there);
-    lone = λ note there itself. (let is = lone note there itself in (subst (λ s. Contains (taken_of s) note.holder) (sym own_now) is.0, is.1));
+    taken = λ none p there. dealt none p (subst (λ s. Contains (taken_by_share s) p) own_now there);
+    lone = λ note there itself. (let is = lone note there itself in (subst (λ s. Contains (taken_by_share s) note.holder) (sym own_now) is.0, is.1));
   }
 
   lent : w.lent ≡ length g.running
@@ -297,6 +297,6 @@ module _ (v : SeatView) (g : GreyView) (m : MarkerSeatView) (k : ShareState) (o 
     pushes = pushes;
     notes = told_behind (sum_by (λ (x : NotesState). x.refused) g.others + sum_by (λ (b : Marker). b.notes.refused) g.running) (refusals_in g.notes) (refusals_in o) works.notes_told;
     found = λ is p there. subst (λ l. Contains l p) found_is there;
-    took = λ is p there. subst (λ s. Contains (taken_of s) p) (sym own_now) (works.later.taken p there);
+    took = λ is p there. subst (λ s. Contains (taken_by_share s) p) (sym own_now) (works.later.taken p there);
     rest = refl;
   }

@@ -6,7 +6,7 @@ use Rattle.std.proofs.lemmas.List.Concat.{flat_map-cons}
 use Rattle.std.proofs.lemmas.List.Elements.{Contains-append_cases, Contains-append_left, Contains-append_right}
 use Rattle.std.proofs.lemmas.List.Sums.{sum_by-cons}
 use Rattle.gc_graph.specs.Members.{Contains-cons, Contains-cons_cases, Contains-head}
-use Rattle.mark_worklist.specs.Shares.{times}
+use Rattle.mark_worklist.specs.Shares.{times_listed}
 
 module _ {X A : Type 0} (f : X → List A) where
   -- it stands in one of them
@@ -29,17 +29,17 @@ module _ {X A : Type 0} (f : X → List A) where
 abbrev one_if : Bool → ℕ
 one_if is = cond is 1 0
 
-times_cons : (a x : ℕ) (items : List ℕ) → times a (x ∷ items) ≡ cond (eqb x a) 1 0 + times a items
+times_cons : (a x : ℕ) (items : List ℕ) → times_listed a (x ∷ items) ≡ cond (eqb x a) 1 0 + times_listed a items
 times_cons a x items = sum_by-cons (λ i. cond (eqb i a) 1 0) x items
 
-pub times_some : (a : ℕ) (items : List ℕ) → Contains items a → 1 ≤ times a items
+pub times_some : (a : ℕ) (items : List ℕ) → Contains items a → 1 ≤ times_listed a items
 times_some a [] there = absurd (omega (arith, there.1))
 times_some a (x ∷ items) there = elim (Contains-cons_cases x items a there) [
   | inl here ↦ omega (arith, times_cons a x items, ap one_if (eq-eqb x a here))
   | inr later ↦ omega (arith, times_cons a x items, times_some a items later)
 ]
 
-pub some_times : (a : ℕ) (items : List ℕ) → 1 ≤ times a items → Contains items a
+pub some_times : (a : ℕ) (items : List ℕ) → 1 ≤ times_listed a items → Contains items a
 some_times a [] some = absurd (omega (arith, some))
 some_times a (x ∷ items) some = elim (cases_Bool (eqb x a)) [
   | inl same ↦ subst (λ y. Contains (x ∷ items) y) (eqb-true x a same) (Contains-head x items)

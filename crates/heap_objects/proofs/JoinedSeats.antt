@@ -10,7 +10,7 @@ use Rattle.page_words.specs.Seat.{SeatView}
 use Rattle.mark_worklist.specs.Ends.{OtherState}
 use Rattle.mark_worklist.specs.Families.{at, IsFresh}
 use Rattle.mark_worklist.specs.Joining.{refused_by}
-use Rattle.mark_worklist.specs.Shares.{ShareState, taken_of}
+use Rattle.mark_worklist.specs.Shares.{ShareState, taken_by_share}
 use Rattle.marker_crew.specs.Crews.{joined_with_all}
 
 -- ---- the seats
@@ -83,7 +83,7 @@ single (s ∷ []) one = sum_by-cons (λ (x : ShareState). x.refused) s [] ∙ om
 single (s ∷ t ∷ shares) one = absurd (omega (arith, one))
 
 -- a share of which no call was made took nothing
-pub nothing_taken : (s : ShareState) → IsFresh s → taken_of s ≡ []
+pub nothing_taken : (s : ShareState) → IsFresh s → taken_by_share s ≡ []
 nothing_taken s fresh = ap (λ l. l ++ flat_map (λ (e : OtherState). e.taken) s.others) fresh.taken ∙ none s.others fresh.stolen
   where
     none : (others : List OtherState) → All (λ e. e.taken ≡ []) others → flat_map (λ (e : OtherState). e.taken) others ≡ []

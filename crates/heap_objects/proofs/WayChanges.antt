@@ -9,12 +9,12 @@ use Rattle.std.proofs.lemmas.List.Elements.{Contains-append_left, Contains-appen
 use Rattle.gc_graph.specs.Members.{Contains-head, Contains-map, in_from_holds, pushed_is_held, Contains-cons_cases}
 use Rattle.mark_worklist.specs.OneMore.{still_there, was_there, is_there}
 use Rattle.mark_worklist.specs.declared.marking.Marking.{Marking}
-use Rattle.mark_worklist.specs.Lists.{ListState, IsPushed, with_own, refused_once, one_counted}
+use Rattle.mark_worklist.specs.Lists.{ListState, IsPutOnList, with_own, list_refused_once, one_counted}
 use Rattle.mark_worklist.specs.Refusals.{PushesOrTells}
 use Rattle.mark_worklist.specs.Families.{at, nobody}
 use Rattle.mark_worklist.specs.Joining.{IsSameList}
 use Rattle.mark_worklist.specs.Kept.{same-list, list-then}
-use Rattle.mark_worklist.specs.Shares.{ShareState, IsSameShare, put_of, taken_of, pushed, refused_once as refused_at}
+use Rattle.mark_worklist.specs.Shares.{ShareState, IsSameShare, put_of, taken_by_share, share_pushed, refused_once}
 use Rattle.marker_core.specs.declared.states.Body.{Body}
 use Rattle.marker_core.specs.Bodies.{holds, place_named, with_word}
 use Rattle.marker_core.specs.Hands.{each_hand, hand_after_mark}
@@ -224,38 +224,38 @@ still_unshared change l none = elim (cases_Bool l.whole) [
   empty_of [] none = refl
   empty_of (s ∷ shares) none = absurd (omega (arith, none))
 
-pub pushed_puts : (l k : ListState) (a : ℕ) (asked : ℕ → Type 0) → IsPushed l a k → asked a → PutsOn l k asked
+pub pushed_puts : (l k : ListState) (a : ℕ) (asked : ℕ → Type 0) → IsPutOnList l a k → asked a → PutsOn l k asked
 pushed_puts l k a asked is one = record {
   whole = is.whole;
-  unshared = λ none. still_unshared (λ s. pushed s a) l (sym is.shares ∙ none);
-  alone = λ whole. is.shares ∙ with_none (λ s. pushed s a) l whole;
-  family = λ out some. changed_family (λ s. pushed s a) l k is.shares out some (λ s. record { number = refl; own = refl; parts = refl; even = λ even. even; others = refl });
-  taken = λ out some. ap taken_of (changed_at (λ s. pushed s a) l k is.shares out some);
-  put = λ out some p there. elim (Contains-push_cases (put_of (at l.shares 0)) a p (subst (λ s. Contains (put_of s) p) (changed_at (λ s. pushed s a) l k is.shares out some) there)) [
+  unshared = λ none. still_unshared (λ s. share_pushed s a) l (sym is.shares ∙ none);
+  alone = λ whole. is.shares ∙ with_none (λ s. share_pushed s a) l whole;
+  family = λ out some. changed_family (λ s. share_pushed s a) l k is.shares out some (λ s. record { number = refl; own = refl; parts = refl; even = λ even. even; others = refl });
+  taken = λ out some. ap taken_by_share (changed_at (λ s. share_pushed s a) l k is.shares out some);
+  put = λ out some p there. elim (Contains-push_cases (put_of (at l.shares 0)) a p (subst (λ s. Contains (put_of s) p) (changed_at (λ s. share_pushed s a) l k is.shares out some) there)) [
     | inl before ↦ inl before
     | inr this ↦ inr (subst asked this one)
   ];
   kept = λ out some p there.
-      subst (λ s. Contains (put_of s) p) (sym (changed_at (λ s. pushed s a) l k is.shares out some)) (Contains-append_left (put_of (at l.shares 0)) (a ∷ []) p there);
+      subst (λ s. Contains (put_of s) p) (sym (changed_at (λ s. share_pushed s a) l k is.shares out some)) (Contains-append_left (put_of (at l.shares 0)) (a ∷ []) p there);
   item = λ out some p there. elim (was_there l.items k.items a is.items p there) [
     | inl before ↦ inl before
-    | inr this ↦ inr (subst (λ s. Contains (put_of s) p) (sym (changed_at (λ s. pushed s a) l k is.shares out some))
+    | inr this ↦ inr (subst (λ s. Contains (put_of s) p) (sym (changed_at (λ s. share_pushed s a) l k is.shares out some))
         (subst (Contains (put_of (at l.shares 0) ++ a ∷ [])) this (Contains-append_right (put_of (at l.shares 0)) (a ∷ []) a (Contains-head a []))))
   ];
-  refused = λ out some same. is.refused ∙ same ∙ sym (ap (λ (s : ShareState). s.refused) (changed_at (λ s. pushed s a) l k is.shares out some));
+  refused = λ out some same. is.refused ∙ same ∙ sym (ap (λ (s : ShareState). s.refused) (changed_at (λ s. share_pushed s a) l k is.shares out some));
 }
 
-pub refused_puts : (l k : ListState) (asked : ℕ → Type 0) → k ≡ refused_once l → PutsOn l k asked
+pub refused_puts : (l k : ListState) (asked : ℕ → Type 0) → k ≡ list_refused_once l → PutsOn l k asked
 refused_puts l k asked is = subst (λ n. PutsOn l n asked) (sym is) (record {
   whole = refl;
-  unshared = λ none. still_unshared refused_at l none;
-  alone = λ whole. with_none refused_at l whole;
-  family = λ out some. changed_family refused_at l (refused_once l) refl out some (λ s. record { number = refl; own = refl; parts = refl; even = λ even. even; others = refl });
-  taken = λ out some. ap taken_of (changed_at refused_at l (refused_once l) refl out some);
-  put = λ out some p there. inl (subst (λ s. Contains (put_of s) p) (changed_at refused_at l (refused_once l) refl out some) there);
-  kept = λ out some p there. subst (λ s. Contains (put_of s) p) (sym (changed_at refused_at l (refused_once l) refl out some)) there;
+  unshared = λ none. still_unshared refused_once l none;
+  alone = λ whole. with_none refused_once l whole;
+  family = λ out some. changed_family refused_once l (list_refused_once l) refl out some (λ s. record { number = refl; own = refl; parts = refl; even = λ even. even; others = refl });
+  taken = λ out some. ap taken_by_share (changed_at refused_once l (list_refused_once l) refl out some);
+  put = λ out some p there. inl (subst (λ s. Contains (put_of s) p) (changed_at refused_once l (list_refused_once l) refl out some) there);
+  kept = λ out some p there. subst (λ s. Contains (put_of s) p) (sym (changed_at refused_once l (list_refused_once l) refl out some)) there;
   item = λ out some p there. inl there;
-  refused = λ out some same. ap one_counted same ∙ sym (ap (λ (s : ShareState). s.refused) (changed_at refused_at l (refused_once l) refl out some));
+  refused = λ out some same. ap one_counted same ∙ sym (ap (λ (s : ShareState). s.refused) (changed_at refused_once l (list_refused_once l) refl out some));
 })
 
 pushed_lists : (v w : SeatView) (m n : Marking) (p : ℕ) → w.marked ≡ v.marked ++ p ∷ [] → PushesOrTells m n p → ListsOn v m w n

@@ -8,7 +8,7 @@ use Rattle.mark_worklist.specs.declared.marking.Marking.{Marking}
 use Rattle.page_words.specs.Seat.{SeatView}
 use Rattle.mark_worklist.specs.Families.{at}
 use Rattle.mark_worklist.specs.Joining.{IsSameList}
-use Rattle.mark_worklist.specs.Shares.{put_of, taken_of}
+use Rattle.mark_worklist.specs.Shares.{put_of, taken_by_share}
 use Rattle.marker_crew.specs.Marking.{traced_count}
 use Rattle.marker_crew.specs.Notes.{NotesState}
 use Rattle.atomic_pause.specs.UnderWay.{IsReadyToEnd, IsUnderWay}
@@ -31,7 +31,7 @@ pub record PutsOn (before after : ListState) (asked : ℕ → Type 0) : Type 0 w
   pub unshared : after.shares ≡ [] → before.shares ≡ []
   pub alone : before.whole ≡ true → after.shares ≡ before.shares
   pub family : before.whole ≡ false → 0 < length before.shares → IsSameList before.shares after.shares
-  pub taken : before.whole ≡ false → 0 < length before.shares → taken_of (at after.shares 0) ≡ taken_of (at before.shares 0)
+  pub taken : before.whole ≡ false → 0 < length before.shares → taken_by_share (at after.shares 0) ≡ taken_by_share (at before.shares 0)
   pub put :
       before.whole ≡ false → 0 < length before.shares → (p : ℕ) → Contains (put_of (at after.shares 0)) p
       → Contains (put_of (at before.shares 0)) p ⊎ asked p
@@ -68,11 +68,11 @@ pub record TellsRisen (before : ℕ) (old new : Marking) : Type 0 where
 abbrev pub IsIdleOrLong : GreyView → GreyView → Type 0
 IsIdleOrLong old new =
     (new.marking.list.idle ≡ true)
-    ⊎ (length (taken_of (at new.marking.list.shares 0)) ≡ length (taken_of (at old.marking.list.shares 0)) + (2 ^ 32 - 1))
+    ⊎ (length (taken_by_share (at new.marking.list.shares 0)) ≡ length (taken_by_share (at old.marking.list.shares 0)) + (2 ^ 32 - 1))
 
 -- each item that the owner's share had taken stays taken
 abbrev pub KeepsTaken : GreyView → GreyView → Type 0
-KeepsTaken old new = (p : ℕ) → Contains (taken_of (at old.marking.list.shares 0)) p → Contains (taken_of (at new.marking.list.shares 0)) p
+KeepsTaken old new = (p : ℕ) → Contains (taken_by_share (at old.marking.list.shares 0)) p → Contains (taken_by_share (at new.marking.list.shares 0)) p
 
 -- the heap is the same, and what was marked or traced still is
 pub record IsSameHeap (old new : SeatView) : Type 0 where

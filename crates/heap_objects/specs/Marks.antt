@@ -7,7 +7,7 @@ use Rattle.gc_graph.specs.State.{Node, IsLive, slot_targets}
 use Rattle.mark_worklist.specs.Refusals.{TellsRefused}
 use Rattle.mark_worklist.specs.Families.{at}
 use Rattle.mark_worklist.specs.Joining.{AreFresh, IsSameList}
-use Rattle.mark_worklist.specs.Shares.{ShareState, put_of, taken_of}
+use Rattle.mark_worklist.specs.Shares.{ShareState, put_of, taken_by_share}
 use Rattle.marker_core.specs.Bodies.{holds}
 use Rattle.page_words.specs.Markers.{new_marker}
 use Rattle.page_words.specs.Seat.{SeatView, IsQuiet}
@@ -65,11 +65,11 @@ pub record IsOut (v : SeatView) (g : GreyView) : Type 0 where
   pub put : (p : ℕ) → Contains g.marking.list.items p → Contains (put_of (at g.marking.list.shares 0)) p
   pub marked : (p : ℕ) → Contains (put_of (at g.marking.list.shares 0)) p → holds v.marked p ≡ true
   pub taken :
-      g.notes.overflow ≡ false → (p : ℕ) → Contains (taken_of (at g.marking.list.shares 0)) p
+      g.notes.overflow ≡ false → (p : ℕ) → Contains (taken_by_share (at g.marking.list.shares 0)) p
       → (holds v.traced p ≡ true) ⊎ (Contains g.found p ⊎ Contains g.notes.notes (note_of p 0))
   pub lone :
       (note : Note) → Contains g.notes.notes note → note.word ≡ 0
-      → Contains (taken_of (at g.marking.list.shares 0)) note.holder × (Contains v.missed note.holder ⊎ (v.count ≤ note.holder))
+      → Contains (taken_by_share (at g.marking.list.shares 0)) note.holder × (Contains v.missed note.holder ⊎ (v.count ≤ note.holder))
 
 -- as many seats are lent as markers run, and these are at home or out
 pub record HasCrew (v : SeatView) (g : GreyView) : Type 0 where

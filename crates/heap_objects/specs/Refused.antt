@@ -1,6 +1,6 @@
 -- How many pushes and notes were refused, and what a pause tells of it.
 use Rattle.std.specs.Prelude.{◌≡◌, ◌⊎◌, ◌<◌, ◌≤◌, ℕ, Bool, true}
-use Rattle.mark_worklist.specs.Lists.{last_count}
+use Rattle.mark_worklist.specs.Shares.{last_count}
 
 -- how many pushes on the marking list and how many notes were refused since the heap was made; a count stays at its last value
 pub record RefusedCounts : Type 0 where

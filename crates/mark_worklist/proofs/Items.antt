@@ -10,9 +10,9 @@ use Rattle.std.proofs.lemmas.List.{append-nil}
 use Rattle.mark_worklist.specs.Hands.{laid, drawn, IsLeft}
 use Rattle.mark_worklist.specs.declared.rule.Hand.{Hand}
 use Rattle.mark_worklist.specs.Ends.{OtherState}
-use Rattle.mark_worklist.specs.Shares.{ShareState, put_of, taken_of, moved_of, IsEven}
+use Rattle.mark_worklist.specs.Shares.{ShareState, put_of, taken_by_share, moved_of, IsEven}
 use Rattle.mark_worklist.specs.Families.{at, nobody, with_joined, GaveBack}
-use Rattle.mark_worklist.specs.Joining.{put_by, taken_by, brought_by, moved_by, LoseNothing, OwnLeft, IsAllCounted, AreEven, AreJoined}
+use Rattle.mark_worklist.specs.Joining.{put_by, taken_by, brought_by, moved_by, LoseNothing, OwnLeft, IsAllCounted, AreEven, EndsAreJoined}
 
 pub all-counted : (xs : List ℕ) → count_by (λ i. true) xs ≡ length xs
 all-counted [] = refl
@@ -114,7 +114,7 @@ order-items old new same = record {
   brought = λ asked. count-of_all asked (λ s. s.own.hand.brought) new ∙ sum_by-IsPermutation (λ s. count_by asked s.own.hand.brought) old new same ∙ sym (count-of_all asked (λ s. s.own.hand.brought) old);
   moved = λ asked. count-of_all asked moved_of new ∙ sum_by-IsPermutation (λ s. count_by asked (moved_of s)) old new same ∙ sym (count-of_all asked moved_of old);
   put = λ asked. count-of_all asked put_of new ∙ sum_by-IsPermutation (λ s. count_by asked (put_of s)) old new same ∙ sym (count-of_all asked put_of old);
-  taken = λ asked. count-of_all asked taken_of new ∙ sum_by-IsPermutation (λ s. count_by asked (taken_of s)) old new same ∙ sym (count-of_all asked taken_of old);
+  taken = λ asked. count-of_all asked taken_by_share new ∙ sum_by-IsPermutation (λ s. count_by asked (taken_by_share s)) old new same ∙ sym (count-of_all asked taken_by_share old);
   refused = sum_by-IsPermutation (λ s. s.refused) old new same;
 }
 
@@ -135,20 +135,20 @@ laid-are shares asked =
     omega (arith, both, sum-both put brought shares, count-of_all asked put_of shares, count-of_all asked (λ (s : ShareState). s.own.hand.brought) shares)
 
 -- what left the lists of shares without ends of other lists was taken, or moved
-pub drawn-are : (shares : List ShareState) (asked : ℕ → Bool) → AreJoined shares
+pub drawn-are : (shares : List ShareState) (asked : ℕ → Bool) → EndsAreJoined shares
     → sum_by (λ s. count_by asked (drawn s.own.hand)) shares ≡ count_by asked (taken_by shares) + count_by asked (moved_by shares)
 drawn-are shares asked joined =
-    let taken : ShareState → ℕ = λ s. count_by asked (taken_of s) in
+    let taken : ShareState → ℕ = λ s. count_by asked (taken_by_share s) in
     let moved : ShareState → ℕ = λ s. count_by asked (moved_of s) in
     let both = sum-same (λ s. count_by asked (drawn s.own.hand)) (λ s. taken s + moved s) shares (λ k d l.
     let s = get_or shares k d in
     let own-taken = ap (λ os. count_by asked (s.own.hand.taken ++ flat_map (λ e. e.taken) os)) (joined.apart k d l) ∙ ap (count_by asked) (append-nil s.own.hand.taken) in
     let own-moved = ap (λ os. count_by asked (s.own.hand.moved ++ flat_map (λ e. e.moved) os)) (joined.apart k d l) ∙ ap (count_by asked) (append-nil s.own.hand.moved) in
     omega (arith, own-taken, own-moved, count-append asked s.own.hand.taken s.own.hand.moved)) in
-    omega (arith, both, sum-both taken moved shares, count-of_all asked taken_of shares, count-of_all asked moved_of shares)
+    omega (arith, both, sum-both taken moved shares, count-of_all asked taken_by_share shares, count-of_all asked moved_of shares)
 
 -- so what was put was taken, or is left
-pub all-own : (shares : List ShareState) (left : List ℕ) → AreJoined shares → AreEven shares → OwnLeft shares left → IsAllCounted shares left
+pub all-own : (shares : List ShareState) (left : List ℕ) → EndsAreJoined shares → AreEven shares → OwnLeft shares left → IsAllCounted shares left
 all-own shares left joined even own asked = omega (arith, even asked, own asked, laid-are shares asked, drawn-are shares asked joined)
 
 -- ---- what was moved was brought

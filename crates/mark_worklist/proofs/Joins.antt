@@ -6,7 +6,7 @@ use Rattle.std.proofs.lemmas.Bool.{cases_lt, cases_eq}
 use Rattle.mark_worklist.specs.Ends.{OtherState}
 use Rattle.mark_worklist.specs.Shares.{ShareState}
 use Rattle.mark_worklist.specs.Families.{at, nobody, with_joined, GaveBack}
-use Rattle.mark_worklist.specs.Joining.{AreJoined, AreOpen, IsPartJoined, ArePartJoined}
+use Rattle.mark_worklist.specs.Joining.{EndsAreJoined, AreOpen, IsPartJoined, ArePartJoined}
 use Rattle.mark_worklist.proofs.Others.{none-left, others-more, others-same}
 use Rattle.mark_worklist.proofs.Links.{length-two, at-first, at-second, at-third}
 
@@ -165,7 +165,7 @@ ends names d shares within h = record {
 }
 
 -- once all lists have their ends back, the shares are joined
-pub joined-all : (names : List (ℕ × ℕ)) (shares : List ShareState) → AreOpen names 0 shares → AreJoined shares
+pub joined-all : (names : List (ℕ × ℕ)) (shares : List ShareState) → AreOpen names 0 shares → EndsAreJoined shares
 joined-all names shares h = record {
   whole = λ k x l. ap (λ s. s.own.hand.parts) (get_or_default shares k x nobody l) ∙ (h.each k (omega (arith, l, h.as_many))).whole (omega arith);
   apart = λ k x l. ap (λ s. s.others) (get_or_default shares k x nobody l)

@@ -7,10 +7,10 @@ use Rattle.std.proofs.lemmas.List.{length-append, length-set, get_or-set_same, g
 use Rattle.std.proofs.lemmas.List.Elements.{All-set}
 use Rattle.std.proofs.lemmas.List.Sums.{sum_by-cons, sum_by-set}
 use Rattle.mark_worklist.specs.Hands.{all_parts, laid, drawn, HasLeft, WasEmpty}
-use Rattle.mark_worklist.specs.Shares.{ShareState, put_of, taken_of, moved_of, times, IsSameShare}
+use Rattle.mark_worklist.specs.Shares.{ShareState, put_of, taken_by_share, moved_of, times_listed, IsSameShare}
 use Rattle.mark_worklist.specs.Families.{at, nobody}
 use Rattle.mark_worklist.specs.Kept.{same-share}
-use Rattle.mark_worklist.specs.Joining.{put_by, taken_by, with_own_taken, AreJoined, IsLeftAfter, IsSameList, IsPopped, IsTaken, KnowLeft, TookOne}
+use Rattle.mark_worklist.specs.Joining.{put_by, taken_by, with_own_taken, EndsAreJoined, IsLeftAfter, IsSameList, IsPopped, IsTakenOrLeft, KnowLeft, TookOne}
 use Rattle.mark_worklist.proofs.Items.{all-counted, count-append, count-of_all, laid-are, drawn-are}
 use Rattle.mark_worklist.proofs.Steps.{left-none}
 
@@ -21,17 +21,17 @@ sum-le f g [] each = omega arith
 sum-le f g (x ∷ xs) each = omega (arith, sum_by-cons f x xs, sum_by-cons g x xs, each 0 (omega arith), sum-le f g xs (λ k l. each (suc k) (omega (arith, l))))
 
 -- of no items more were taken than put
-taken-le : (shares : List ShareState) (asked : ℕ → Bool) → AreJoined shares → KnowLeft shares → count_by asked (taken_by shares) ≤ count_by asked (put_by shares)
+taken-le : (shares : List ShareState) (asked : ℕ → Bool) → EndsAreJoined shares → KnowLeft shares → count_by asked (taken_by shares) ≤ count_by asked (put_by shares)
 taken-le shares asked joined known =
     let le = sum-le (λ s. count_by asked (drawn s.own.hand)) (λ s. count_by asked (laid s.own.hand)) shares (λ k l. (let left = known.each k nobody l in omega (arith, left.1 asked))) in
     omega (arith, le, known.even asked, laid-are shares asked, drawn-are shares asked joined)
 
 -- ---- an item is in a list
 
-one-of : (a : ℕ) → times a (a ∷ []) ≡ 1
+one-of : (a : ℕ) → times_listed a (a ∷ []) ≡ 1
 one-of a = search rules
 
-is-in : (a : ℕ) (items : List ℕ) → 0 < times a items → Contains items a
+is-in : (a : ℕ) (items : List ℕ) → 0 < times_listed a items → Contains items a
 is-in a [] some = absurd (omega (arith, some))
 is-in a (x ∷ xs) some = elim (cases_Bool (x == a)) [
   | inl this ↦ subst (λ y. Contains (y ∷ xs) a) (sym (eqb-true x a this)) (Contains-head a xs)
@@ -90,14 +90,14 @@ module _ (old new : List ShareState) (a : ℕ) (took : TookOne old a new) where
 
   taken-more : (asked : ℕ → Bool) → count_by asked (taken_by new) ≡ count_by asked (taken_by old) + count_by asked (a ∷ [])
   taken-more asked =
-      let f : ShareState → ℕ = λ s. count_by asked (taken_of s) in
+      let f : ShareState → ℕ = λ s. count_by asked (taken_by_share s) in
       let s = at old took.place in
       let others : List ℕ = flat_map (λ e. e.taken) s.others in
       omega (
         arith,
         total f refl,
-        count-of_all asked taken_of new,
-        count-of_all asked taken_of old,
+        count-of_all asked taken_by_share new,
+        count-of_all asked taken_by_share old,
         count-append asked (s.own.hand.taken ++ a ∷ []) others,
         count-append asked s.own.hand.taken (a ∷ []),
         count-append asked s.own.hand.taken others,
@@ -108,8 +108,8 @@ module _ (old new : List ShareState) (a : ℕ) (took : TookOne old a new) where
       let stepped : All P step = All-set P old took.place taker holds all in
       subst (All P) (sym took.all) (All-set P step 0 (woken (at step 0)) (wakes (stepped 0 nobody some-step)) stepped)
 
-  module _ (joined : AreJoined old) (known : KnowLeft old) (left : HasLeft taker.own.hand) where
-    joined-yet : AreJoined new
+  module _ (joined : EndsAreJoined old) (known : KnowLeft old) (left : HasLeft taker.own.hand) where
+    joined-yet : EndsAreJoined new
     joined-yet = record {
       whole = keeps (λ s. s.own.hand.parts ≡ all_parts) (λ h. h) (joined.whole took.place nobody took.within) joined.whole;
       apart = keeps (λ s. s.others ≡ []) (λ h. h) (joined.apart took.place nobody took.within) joined.apart;
@@ -121,7 +121,7 @@ module _ (old new : List ShareState) (a : ℕ) (took : TookOne old a new) where
       even = λ asked. same-items (λ s. s.own.hand.brought) refl refl asked ∙ known.even asked ∙ sym (same-items moved_of refl refl asked);
     }
 
-    left-after : (items : List ℕ) → IsTaken old items → IsLeftAfter new (Some a) items
+    left-after : (items : List ℕ) → IsTakenOrLeft old items → IsLeftAfter new (Some a) items
     left-after items taken =
         let this : ℕ → Bool = λ i. i == a in (
           is-in a items (omega (arith, taken.even a, put-same this, taken-more this, one-of a, taken-le new this joined-yet known-yet)),
@@ -167,7 +167,7 @@ module _ (old new : List ShareState) (a : ℕ) (took : TookOne old a new) where
 
 -- ---- none was found
 
-module _ (old : List ShareState) (some : 0 < length old) (joined : AreJoined old) (known : KnowLeft old) (empty : All (λ s. WasEmpty s.own.hand) old) where
+module _ (old : List ShareState) (some : 0 < length old) (joined : EndsAreJoined old) (known : KnowLeft old) (empty : All (λ s. WasEmpty s.own.hand) old) where
   abbrev first : ShareState
   first = record (at old 0) { pop_found_none = true }
 
@@ -189,7 +189,7 @@ module _ (old : List ShareState) (some : 0 < length old) (joined : AreJoined old
   put-still = still put_of refl
 
   taken-still : (asked : ℕ → Bool) → count_by asked (taken_by after) ≡ count_by asked (taken_by old)
-  taken-still = still taken_of refl
+  taken-still = still taken_by_share refl
 
   no-items : (items : List ℕ) → length items ≡ 0 → items ≡ []
   no-items [] none = refl

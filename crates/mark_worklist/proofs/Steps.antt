@@ -8,7 +8,7 @@ use Rattle.std.proofs.lemmas.List.Sums.{sum_by-append, sum_by_push}
 use Rattle.std.proofs.lemmas.List.Elements.{All-set, All-append}
 use Rattle.crossbeam_deque.specs.Tasks.{Pushes, Takes, TakesBatch, Finds, FindsFew, Forks, Merges, Learns}
 use Rattle.mark_worklist.specs.declared.rule.Hand.{Hand}
-use Rattle.mark_worklist.specs.Hands.{hand, all_parts, laid, drawn, one_part_from, with_put, with_taken, with_brought, with_moved, joined, IsIdleWithoutParts, IsBalanced, WasEmpty, HasLeft, IsLeft, TookWhole}
+use Rattle.mark_worklist.specs.Hands.{hand, all_parts, laid, drawn, one_part_from, with_put, with_taken, with_brought, with_moved, hands_joined, IsIdleWithoutParts, IsBalanced, WasEmpty, HasLeft, IsLeft, TookWhole}
 use Rattle.mark_worklist.proofs.Balance.{sum-set, is-there, at-port, alone}
 
 -- how many items that are asked for came onto the list at an end, and left it there
@@ -141,9 +141,9 @@ cuts port v more items hands b at =
           (all-one right (busy right (omega arith)));
     }
 
-pub joins : (port : ℕ) (v : Hand) (other : ℕ) (u : Hand) → 0 < v.parts → Merges IsBalanced port v other u (joined v u) (hand 0 [] [])
+pub joins : (port : ℕ) (v : Hand) (other : ℕ) (u : Hand) → 0 < v.parts → Merges IsBalanced port v other u (hands_joined v u) (hand 0 [] [])
 joins port v other u some_part items hands b at apart at' =
-    let both : Hand = joined v u in
+    let both : Hand = hands_joined v u in
     let spent : Hand = hand 0 [] [] in
     let now : List Hand = set hands port both in
     record {

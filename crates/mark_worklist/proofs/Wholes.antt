@@ -8,9 +8,9 @@ use Rattle.std.proofs.lemmas.List.Sorted.{All-permutation}
 use Rattle.std.proofs.lemmas.Bool.{cases_lt}
 use Rattle.mark_worklist.specs.Hands.{all_parts, WasEmpty}
 use Rattle.mark_worklist.specs.Ends.{ListName}
-use Rattle.mark_worklist.specs.Shares.{ShareState, times, IsEven}
+use Rattle.mark_worklist.specs.Shares.{ShareState, times_listed, IsEven}
 use Rattle.mark_worklist.specs.Families.{at, names_of, nobody, IsFresh, IsShareOf}
-use Rattle.mark_worklist.specs.Joining.{put_by, taken_by, AreAllShares, AreEven, AreFresh, AreJoined, AreOpen, HaveSameItems, IsTaken, LoseNothing, IsAllCounted}
+use Rattle.mark_worklist.specs.Joining.{put_by, taken_by, AreAllShares, AreEven, AreFresh, EndsAreJoined, AreOpen, HaveSameItems, IsTakenOrLeft, LoseNothing, IsAllCounted}
 use Rattle.mark_worklist.proofs.Items.{all-counted, each-even}
 
 -- what is so of the first share, which is alone, is so of its list
@@ -62,7 +62,7 @@ module _ (old new : List ShareState) (same : LoseNothing old new) where
   pub as-many-put : length (put_by new) ≡ length (put_by old)
   as-many-put = omega (arith, same.put (λ i. true), all-counted (put_by new), all-counted (put_by old))
 
-  pub all-taken : (left : List ℕ) → IsAllCounted new left → IsTaken old left
+  pub all-taken : (left : List ℕ) → IsAllCounted new left → IsTakenOrLeft old left
   all-taken left counted = record {
     even = λ item. omega (arith, counted (λ i. i == item), same.put (λ i. i == item), same.taken (λ i. i == item));
     as_many = omega (arith, counted (λ i. true), same.put (λ i. true), same.taken (λ i. true), all-counted (put_by old), all-counted (taken_by old), all-counted left);
@@ -77,17 +77,17 @@ module _ (old new : List ShareState) (same : LoseNothing old new) where
   }
     where
       first-put : (shares : List ShareState) (refused : ℕ) (s : ShareState) → 0 < length shares → s ≡ record (at shares 0) { refused = refused; pop_found_none = false; steal_found_none = false }
-          → (item : ℕ) → times item (put_by (set shares 0 s)) ≡ times item (put_by shares)
+          → (item : ℕ) → times_listed item (put_by (set shares 0 s)) ≡ times_listed item (put_by shares)
       first-put [] refused s some is item = absurd (omega (arith, some))
-      first-put (x ∷ xs) refused s some is item = ap (λ t. times item (put_by (t ∷ xs))) is
+      first-put (x ∷ xs) refused s some is item = ap (λ t. times_listed item (put_by (t ∷ xs))) is
 
       first-taken : (shares : List ShareState) (refused : ℕ) (s : ShareState) → 0 < length shares → s ≡ record (at shares 0) { refused = refused; pop_found_none = false; steal_found_none = false }
-          → (item : ℕ) → times item (taken_by (set shares 0 s)) ≡ times item (taken_by shares)
+          → (item : ℕ) → times_listed item (taken_by (set shares 0 s)) ≡ times_listed item (taken_by shares)
       first-taken [] refused s some is item = absurd (omega (arith, some))
-      first-taken (x ∷ xs) refused s some is item = ap (λ t. times item (taken_by (t ∷ xs))) is
+      first-taken (x ∷ xs) refused s some is item = ap (λ t. times_listed item (taken_by (t ∷ xs))) is
 
 pub still-joined : (shares : List ShareState) (refused : ℕ) (s : ShareState) → 0 < length shares
-    → s ≡ record (at shares 0) { refused = refused; pop_found_none = false; steal_found_none = false } → AreJoined shares → AreJoined (set shares 0 s)
+    → s ≡ record (at shares 0) { refused = refused; pop_found_none = false; steal_found_none = false } → EndsAreJoined shares → EndsAreJoined (set shares 0 s)
 still-joined shares refused s some is h = record {
   whole = All-set (λ t. t.own.hand.parts ≡ all_parts) shares 0 s (ap (λ t. t.own.hand.parts) is ∙ h.whole 0 nobody some) h.whole;
   apart = All-set (λ t. t.others ≡ []) shares 0 s (ap (λ t. t.others) is ∙ h.apart 0 nobody some) h.apart;
@@ -95,10 +95,10 @@ still-joined shares refused s some is h = record {
 
 -- the first share tells what was refused, and what is left is the same
 pub still-taken : (shares : List ShareState) (refused : ℕ) (s : ShareState) → 0 < length shares
-    → s ≡ record (at shares 0) { refused = refused; pop_found_none = false; steal_found_none = false } → (left : List ℕ) → IsTaken shares left → IsTaken (set shares 0 s) left
+    → s ≡ record (at shares 0) { refused = refused; pop_found_none = false; steal_found_none = false } → (left : List ℕ) → IsTakenOrLeft shares left → IsTakenOrLeft (set shares 0 s) left
 still-taken [] refused s some is left taken = absurd (omega (arith, some))
 still-taken (x ∷ xs) refused s some is left taken = record {
-  even = λ item. ap (λ t. times item (taken_by (t ∷ xs)) + times item left) is ∙ taken.even item ∙ sym (ap (λ t. times item (put_by (t ∷ xs))) is);
+  even = λ item. ap (λ t. times_listed item (taken_by (t ∷ xs)) + times_listed item left) is ∙ taken.even item ∙ sym (ap (λ t. times_listed item (put_by (t ∷ xs))) is);
   as_many = ap (λ t. length (taken_by (t ∷ xs)) + length left) is ∙ taken.as_many ∙ sym (ap (λ t. length (put_by (t ∷ xs))) is);
 }
 

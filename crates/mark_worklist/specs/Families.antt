@@ -1,7 +1,7 @@
 -- Shares that know one another's lists.
 use Rattle.std.specs.Prelude.{◌≡◌, ℕ, ◌+◌, ◌<◌, ◌≤◌, false, List, [], ◌∷◌, ◌++◌, length, map, slice_index_or, slice_set, All}
 use Rattle.std.specs.List.{insert, remove}
-use Rattle.mark_worklist.specs.Hands.{hand, all_parts, joined}
+use Rattle.mark_worklist.specs.Hands.{hand, all_parts, hands_joined}
 use Rattle.mark_worklist.specs.Ends.{ListName, OtherState, hand_of, one_part_less}
 use Rattle.mark_worklist.specs.Shares.{ShareState}
 
@@ -51,7 +51,7 @@ pub record GaveEnd (old : List ShareState) (d p : ℕ) (new : List ShareState) :
 
 -- its own end took in the other one, with what that took
 abbrev pub with_joined : ShareState → OtherState → ShareState
-with_joined s e = record s { own = record s.own { hand = joined s.own.hand (hand_of e) } }
+with_joined s e = record s { own = record s.own { hand = hands_joined s.own.hand (hand_of e) } }
 
 -- the share at p gave its last end back to the share at d
 pub record GaveBack (old : List ShareState) (p d : ℕ) (new : List ShareState) : Type 0 where

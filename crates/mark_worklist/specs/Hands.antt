@@ -40,8 +40,8 @@ abbrev pub with_moved : Hand → List ℕ → Hand
 with_moved h more = record h { moved = h.moved ++ more }
 
 -- two ends as one
-abbrev pub joined : Hand → Hand → Hand
-joined h k = record {
+abbrev pub hands_joined : Hand → Hand → Hand
+hands_joined h k = record {
   parts = h.parts + k.parts;
   put = h.put ++ k.put;
   taken = h.taken ++ k.taken;

@@ -3,7 +3,7 @@ use Rattle.std.specs.Prelude.{◌≡◌, ℕ, ◌+◌, ◌<◌, ◌≤◌, false
 use Rattle.std.specs.List.{count_by, flat_map, remove}
 use Rattle.mark_worklist.specs.Hands.{all_parts, with_taken, laid, drawn, HasLeft}
 use Rattle.mark_worklist.specs.Ends.{ListName}
-use Rattle.mark_worklist.specs.Shares.{ShareState, put_of, taken_of, moved_of, times, IsEven, IsSameShare}
+use Rattle.mark_worklist.specs.Shares.{ShareState, put_of, taken_by_share, moved_of, times_listed, IsEven, IsSameShare}
 use Rattle.mark_worklist.specs.Families.{at, names_of, IsFresh, IsShareOf}
 
 -- what shares put
@@ -12,7 +12,7 @@ put_by shares = flat_map put_of shares
 
 -- what shares took
 abbrev pub taken_by : List ShareState → List ℕ
-taken_by shares = flat_map taken_of shares
+taken_by shares = flat_map taken_by_share shares
 
 -- what they brought to their own lists
 abbrev pub brought_by : List ShareState → List ℕ
@@ -38,7 +38,7 @@ pub record AreAllShares (list shares : List ShareState) : Type 0 where
   pub numbered : (n : ℕ) → 0 < n → n ≤ length shares → (s : ShareState) × Contains shares s × (s.number ≡ n)
 
 -- all ends of their lists are joined: only they put and take there
-pub record AreJoined (shares : List ShareState) : Type 0 where
+pub record EndsAreJoined (shares : List ShareState) : Type 0 where
   pub whole : All (λ s. s.own.hand.parts ≡ all_parts) shares
   pub apart : All (λ s. s.others ≡ []) shares
 
@@ -53,12 +53,12 @@ pub record KnowLeft (shares : List ShareState) : Type 0 where
 
 -- they have put and taken the same items as before, each as often
 pub record HaveSameItems (old new : List ShareState) : Type 0 where
-  pub put : (item : ℕ) → times item (put_by new) ≡ times item (put_by old)
-  pub taken : (item : ℕ) → times item (taken_by new) ≡ times item (taken_by old)
+  pub put : (item : ℕ) → times_listed item (put_by new) ≡ times_listed item (put_by old)
+  pub taken : (item : ℕ) → times_listed item (taken_by new) ≡ times_listed item (taken_by old)
 
 -- what was put was taken or is left: each item as often
-pub record IsTaken (shares : List ShareState) (left : List ℕ) : Type 0 where
-  pub even : (item : ℕ) → times item (taken_by shares) + times item left ≡ times item (put_by shares)
+pub record IsTakenOrLeft (shares : List ShareState) (left : List ℕ) : Type 0 where
+  pub even : (item : ℕ) → times_listed item (taken_by shares) + times_listed item left ≡ times_listed item (put_by shares)
   pub as_many : length (taken_by shares) + length left ≡ length (put_by shares)
 
 -- the share after its own list gave an item
@@ -79,14 +79,14 @@ pub record TookOne (old : List ShareState) (a : ℕ) (new : List ShareState) : T
 abbrev pub IsLeftAfter : List ShareState → Option ℕ → List ℕ → Type 0
 IsLeftAfter new result left =
     MatchOption result (left ≡ [])
-    (λ a. Contains left a × ((before after : List ℕ) → left ≡ before ++ a ∷ after → IsTaken new (before ++ after)))
+    (λ a. Contains left a × ((before after : List ℕ) → left ≡ before ++ a ∷ after → IsTakenOrLeft new (before ++ after)))
 
 -- joined lists, of which it is known what is left, were asked for an item
 pub record IsPopped (old : List ShareState) (result : Option ℕ) (new : List ShareState) : Type 0 where
-  pub joined : AreJoined new
+  pub joined : EndsAreJoined new
   pub known : KnowLeft new
-  pub none : IsNone result → IsTaken new []
-  pub left : (left : List ℕ) → IsTaken old left → IsLeftAfter new result left
+  pub none : IsNone result → IsTakenOrLeft new []
+  pub left : (left : List ℕ) → IsTakenOrLeft old left → IsLeftAfter new result left
 
 -- a list of the owner's and so many shares, of which no call was made: they are numbered from 0, the owner's first, and each has
 -- a list of its own and an end of each other one's

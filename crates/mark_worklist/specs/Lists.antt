@@ -2,7 +2,7 @@
 use Rattle.std.specs.Prelude.{◌≡◌, ℕ, ◌+◌, ◌-◌, ◌^◌, Bool, true, false, List, [], ◌∷◌, ◌++◌, min, slice_set, if◌then◌else◌, ◌&&◌}
 use Rattle.mark_worklist.specs.Families.{at}
 use Rattle.mark_worklist.specs.Joining.{AreFresh}
-use Rattle.mark_worklist.specs.Shares.{ShareState, put_of, pushed, refused_once as refused_at}
+use Rattle.mark_worklist.specs.Shares.{ShareState, put_of, share_pushed, refused_once, last_count}
 
 -- the addresses, of whose order nothing is said, and while shares are out those that the owner put; how many pushes were
 -- refused; whether nothing was found since an item was last put or given; the owner's share and those that it took in; and
@@ -49,21 +49,17 @@ abbrev pub with_own : (ShareState → ShareState) → ListState → List ShareSt
 with_own change l = if l.whole then l.shares else slice_set l.shares 0 (change (at l.shares 0))
 
 -- the address was put on the list, and nothing was refused
-pub record IsPushed (old : ListState) (a : ℕ) (new : ListState) : Type 0 where
+pub record IsPutOnList (old : ListState) (a : ℕ) (new : ListState) : Type 0 where
   pub items : IsOneMore old.items a new.items
   pub awake : new.idle ≡ false
   pub refused : new.refused ≡ old.refused
   pub whole : new.whole ≡ old.whole
-  pub shares : new.shares ≡ with_own (λ s. pushed s a) old
-
--- the last value of a count of what was refused
-abbrev pub last_count : ℕ
-last_count = 2 ^ 64 - 1
+  pub shares : new.shares ≡ with_own (λ s. share_pushed s a) old
 
 -- the count after one more; at its last value it stays
 abbrev pub one_counted : ℕ → ℕ
 one_counted count = min (count + 1) last_count
 
 -- one more push was refused, and nothing else changed
-abbrev pub refused_once : ListState → ListState
-refused_once l = record l { refused = one_counted l.refused; shares = with_own refused_at l }
+abbrev pub list_refused_once : ListState → ListState
+list_refused_once l = record l { refused = one_counted l.refused; shares = with_own refused_once l }

@@ -1,6 +1,7 @@
 -- Whether pushes or notes were refused: a flag tells it, and a count is its cause.
 use Rattle.std.specs.Prelude.{◌≡◌, ◌⊎◌, ◌<◌, ◌≤◌, ℕ, Bool, true}
-use Rattle.mark_worklist.specs.Lists.{last_count, IsPushed, refused_once}
+use Rattle.mark_worklist.specs.Lists.{IsPutOnList, list_refused_once}
+use Rattle.mark_worklist.specs.Shares.{last_count}
 use Rattle.mark_worklist.specs.declared.marking.Marking.{Marking}
 
 -- whether something was refused since marking began, and how often that was since the beginning
@@ -22,5 +23,5 @@ pub record TellsRefused (old new : Refusals) : Type 0 where
 -- the place was put on the list, or the push was refused, which is told
 abbrev pub PushesOrTells : Marking → Marking → ℕ → Type 0
 PushesOrTells before after a =
-    (IsPushed before.list a after.list × (after ≡ record before { list = after.list }))
-    ⊎ (after ≡ record before { overflow = true; list = refused_once before.list })
+    (IsPutOnList before.list a after.list × (after ≡ record before { list = after.list }))
+    ⊎ (after ≡ record before { overflow = true; list = list_refused_once before.list })

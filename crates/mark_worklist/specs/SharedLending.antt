@@ -6,5 +6,5 @@ use Rattle.mark_worklist.specs.contracts.lists.SharedList.{the_row}
 use Rattle.mark_worklist.specs.contracts.share.Share.{the_row as share_row}
 
 -- the list ends with the last value behind r as its first share
-abbrev pub LendsOwn : MutBor (List ShareState) → MutBor ShareState → Fml
-LendsOwn s r = Lends the_row share_row s r (λ w. slice_set s.now 0 w)
+abbrev pub LendsFirstShare : MutBor (List ShareState) → MutBor ShareState → Fml
+LendsFirstShare s r = Lends the_row share_row s r (λ w. slice_set s.now 0 w)

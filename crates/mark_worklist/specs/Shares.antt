@@ -19,8 +19,8 @@ abbrev pub put_of : ShareState → List ℕ
 put_of s = s.own.hand.put
 
 -- what it took, of its own list and of others
-abbrev pub taken_of : ShareState → List ℕ
-taken_of s = s.own.hand.taken ++ flat_map (λ e. e.taken) s.others
+abbrev pub taken_by_share : ShareState → List ℕ
+taken_by_share s = s.own.hand.taken ++ flat_map (λ e. e.taken) s.others
 
 -- what it moved to its own list, from any
 abbrev pub moved_of : ShareState → List ℕ
@@ -31,8 +31,8 @@ abbrev pub IsEven : ShareState → Type 0
 IsEven s = (asked : ℕ → Bool) → count_by asked s.own.hand.brought ≡ count_by asked (moved_of s)
 
 -- how often an item stands in a list
-abbrev pub times : ℕ → List ℕ → ℕ
-times item items = count_by (λ i. i == item) items
+abbrev pub times_listed : ℕ → List ℕ → ℕ
+times_listed item items = count_by (λ i. i == item) items
 
 -- the last value of a count of what was refused
 abbrev pub last_count : ℕ
@@ -43,8 +43,8 @@ abbrev pub more_counted : ℕ → ℕ → ℕ
 more_counted count more = min (count + more) last_count
 
 -- the item was put on its own list
-abbrev pub pushed : ShareState → ℕ → ShareState
-pushed s a = record s { own = record s.own { hand = with_put s.own.hand (a ∷ []) }; pop_found_none = false; steal_found_none = false }
+abbrev pub share_pushed : ShareState → ℕ → ShareState
+share_pushed s a = record s { own = record s.own { hand = with_put s.own.hand (a ∷ []) }; pop_found_none = false; steal_found_none = false }
 
 -- one more push was refused, and nothing else changed
 abbrev pub refused_once : ShareState → ShareState

@@ -1,7 +1,8 @@
 -- What tells of refused pushes, from state to state.
 use Rattle.std.proofs.Common.{rules, ◌≡◌, ◌≤◌, ℕ, Bool, true, refl, inl, inr, arith}
 use Rattle.std.proofs.lemmas.Bool.{cases_lt}
-use Rattle.mark_worklist.specs.Lists.{last_count, one_counted}
+use Rattle.mark_worklist.specs.Lists.{one_counted}
+use Rattle.mark_worklist.specs.Shares.{last_count}
 use Rattle.mark_worklist.specs.Refusals.{Refusals, TellsRefused}
 
 -- where neither the flag of refusals nor their count changed, refusals are told rightly

@@ -4,14 +4,14 @@ ghost use Rattle.std.specs.Prelude.{◌≡◌, ◌≤◌, ℕ, List, length, min
 ghost use Rattle.std.specs.Prelude.{vec_len, vec_capacity};
 ghost use Rattle.mark_worklist.specs.Hands.{all_parts};
 ghost use Rattle.mark_worklist.specs.Shares.{last_count};
-ghost use Rattle.mark_worklist.specs.Joining.{put_by, refused_by, AreJoined, IsAllCounted};
+ghost use Rattle.mark_worklist.specs.Joining.{put_by, refused_by, EndsAreJoined, IsAllCounted};
 ghost use Rattle.mark_worklist.specs.Joining.{AreEven, KnowLeft};
 
 use crate::share::Share;
 
 /// How many items are left on all lists.
 pub(crate) fn count_left(family: &mut Vec<Share>) -> u64
-    requires joined { AreJoined family.old.items }
+    requires joined { EndsAreJoined family.old.items }
     requires even { AreEven family.old.items }
     requires few { vec_len family.old ≤ all_parts }
     ensures same { family.new.items ≡ family.old.items }

@@ -2,7 +2,7 @@
 
 ghost use Rattle.std.specs.Prelude.{◌≡◌, ◌<◌, ℕ, List, [], ◌∷◌, ◌++◌, length, MatchOption};
 ghost use Rattle.std.specs.Prelude.{IfErr, IfOk, IfSome, OnErr, OnOk};
-ghost use Rattle.mark_worklist.specs.Hands.{hand, all_parts, with_put, with_taken, joined};
+ghost use Rattle.mark_worklist.specs.Hands.{hand, all_parts, with_put, with_taken, hands_joined};
 ghost use Rattle.mark_worklist.specs.Hands.{WasEmpty, HasLeft, IsLeft};
 ghost use Rattle.mark_worklist.specs.Ends.{OwnState, OtherState, FoundNone, Moved, hand_of, one_part_less};
 
@@ -106,7 +106,7 @@ impl OwnEnd {
     /// Takes another end in, with all that it put and took.
     pub(crate) fn join(&mut self, other: OtherEnd)
         requires { other.list ≡ self.old.list }
-        ensures { self.new ≡ record self.old { hand = joined self.old.hand (hand_of other) } }
+        ensures { self.new ≡ record self.old { hand = hands_joined self.old.hand (hand_of other) } }
     {
         self.worker.absorb::<Cut>(other.pass);
     }

@@ -8,7 +8,7 @@ ghost use Rattle.mark_worklist.specs.Hands.{all_parts};
 ghost use Rattle.mark_worklist.specs.Ends.{ListName, OtherState};
 ghost use Rattle.mark_worklist.specs.Shares.{ShareState};
 ghost use Rattle.mark_worklist.specs.Families.{at, names_of, GaveBack};
-ghost use Rattle.mark_worklist.specs.Joining.{AreAllShares, AreJoined, AreOpen, ArePartJoined};
+ghost use Rattle.mark_worklist.specs.Joining.{AreAllShares, EndsAreJoined, AreOpen, ArePartJoined};
 ghost use Rattle.mark_worklist.specs.Joining.{AreEven, LoseNothing};
 
 use crate::share::Share;
@@ -17,7 +17,7 @@ use crate::share::Share;
 pub(crate) fn join_all(family: &mut Vec<Share>, shares: Vec<Share>)
     requires all { AreAllShares family.old.items shares.items }
     requires room { length shares.items < vec_capacity family.old }
-    ensures joined { AreJoined family.new.items }
+    ensures joined { EndsAreJoined family.new.items }
     ensures same { LoseNothing (family.old.items ++ shares.items) family.new.items }
     ensures even { AreEven family.new.items }
     ensures some { 0 < vec_len family.new }
@@ -75,7 +75,7 @@ fn join_lists(family: &mut Vec<Share>)
     requires some { 0 < vec_len family.old }
     requires before { (names : List ListName) × (length names ≤ all_parts)
         × AreOpen names (length names) family.old.items }
-    ensures joined { AreJoined family.new.items }
+    ensures joined { EndsAreJoined family.new.items }
     ensures same { LoseNothing family.old.items family.new.items }
     ensures as_many { vec_len family.new ≡ vec_len family.old }
     ensures room { vec_capacity family.new ≡ vec_capacity family.old }

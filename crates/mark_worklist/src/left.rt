@@ -1,7 +1,7 @@
 // What is left on lists that were taken in. All of it is for contracts alone.
 
 ghost use Rattle.std.specs.Prelude.{◌≡◌, []};
-ghost use Rattle.mark_worklist.specs.Left.{left_on, without};
+ghost use Rattle.mark_worklist.specs.Left.{left_on, without_first};
 
 use crate::lists::SharedList;
 use ghost_values::GhostValue;
@@ -30,7 +30,7 @@ struct AboutPop<'a> {
 
 /// What was left, without this address.
 pub(crate) fn without(a: u32, left: &GhostValue<Addresses>) -> GhostValue<Addresses>
-    ensures { result.value ≡ without a left.now.value }
+    ensures { result.value ≡ without_first a left.now.value }
 {
     GhostValue::chosen(&AboutPop { a, left })
 }

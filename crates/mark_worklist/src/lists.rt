@@ -3,11 +3,11 @@
 ghost use Rattle.std.specs.Prelude.{◌≡◌, ◌≤◌, ◌<◌, ◌&&◌, ◌+◌, ℕ, List, true, false, [], ◌++◌, All};
 ghost use Rattle.std.specs.Prelude.{length, min, slice_set, IfErr, IfOk, OnOk, MatchOption};
 ghost use Rattle.mark_worklist.specs.Hands.{all_parts, WasEmpty};
-ghost use Rattle.mark_worklist.specs.Shares.{pushed, refused_once, last_count};
+ghost use Rattle.mark_worklist.specs.Shares.{share_pushed, refused_once, last_count};
 ghost use Rattle.mark_worklist.specs.Shares.{Stole, StoleNone};
 ghost use Rattle.mark_worklist.specs.Families.{at, names_of, IsFresh, IsShareOf};
-ghost use Rattle.mark_worklist.specs.Joining.{put_by, taken_by, refused_by, TookOne, IsTaken};
-ghost use Rattle.mark_worklist.specs.Joining.{AreAllShares, AreJoined, AreFresh, HaveSameItems};
+ghost use Rattle.mark_worklist.specs.Joining.{put_by, taken_by, refused_by, TookOne, IsTakenOrLeft};
+ghost use Rattle.mark_worklist.specs.Joining.{AreAllShares, EndsAreJoined, AreFresh, HaveSameItems};
 ghost use Rattle.mark_worklist.specs.Joining.{KnowLeft, IsPopped};
 ghost use Rattle.mark_worklist.specs.Joining.{IsSameList};
 
@@ -51,7 +51,7 @@ impl Model for SharedList {
 
 impl SharedList {
     ghost use Rattle.std.specs.Borrow.{sem};
-    ghost use Rattle.mark_worklist.specs.SharedLending.{LendsOwn};
+    ghost use Rattle.mark_worklist.specs.SharedLending.{LendsFirstShare};
 
     /// A list of the owner's own, and so many shares. Want of memory is free.
     pub fn new(alloc: Global, shares: u32) -> Result<(SharedList, Vec<Share>), NoMemory>
@@ -66,7 +66,7 @@ impl SharedList {
 
     /// The owner's share, for calls that take a share. It is to be left in its place.
     pub fn own(&mut self) -> &mut Share
-        ensures* lends { sem 𝓛 (LendsOwn self.entry result) }
+        ensures* lends { sem 𝓛 (LendsFirstShare self.entry result) }
         ensures share { result.now ≡ at self.old 0 }
         ensures some { 0 < length self.old }
     {
@@ -76,7 +76,8 @@ impl SharedList {
     /// Puts an item on its own list. Want of memory is free, and so is a push once 2^60 items may have
     /// come onto the list: the item is handed back.
     pub fn push(&mut self, a: u32) -> Result<(), Refused>
-        ensures done { OnOk result (self.new ≡ slice_set self.old 0 (pushed (at self.old 0) a)) }
+        ensures done { OnOk result (self.new
+            ≡ slice_set self.old 0 (share_pushed (at self.old 0) a)) }
         ensures refused { IfErr result (λ back. (back.0 ≡ a)
             × (self.new ≡ slice_set self.old 0 (refused_once (at self.old 0)))) }
         ensures same { IsSameList self.old self.new }
@@ -93,7 +94,7 @@ impl SharedList {
             ((self.new ≡ slice_set self.old 0 (record (at self.old 0) { pop_found_none = true }))
             × All (λ s. WasEmpty s.own.hand) self.old)
             (λ a. TookOne self.old a self.new) }
-        ensures left { AreJoined self.old → KnowLeft self.old
+        ensures left { EndsAreJoined self.old → KnowLeft self.old
             → IsPopped self.old result self.new }
         ensures same { IsSameList self.old self.new }
     {
@@ -125,8 +126,8 @@ impl SharedList {
         ensures pushed { result.pushed ≡ length (put_by (self.old ++ shares.items)) }
         ensures taken { result.taken ≡ length (taken_by (self.old ++ shares.items)) }
         ensures left { (left : List ℕ) × (length left ≡ result.left)
-            × IsTaken (self.old ++ shares.items) left × IsTaken self.new left }
-        ensures same { HaveSameItems (self.old ++ shares.items) self.new × AreJoined self.new }
+            × IsTakenOrLeft (self.old ++ shares.items) left × IsTakenOrLeft self.new left }
+        ensures same { HaveSameItems (self.old ++ shares.items) self.new × EndsAreJoined self.new }
         ensures known { KnowLeft self.new }
         ensures refused { (at self.new 0).refused
             ≡ min (refused_by (self.old ++ shares.items)) last_count }

@@ -41,9 +41,9 @@ impl Split<Hand> for Cut {
 
 impl Join<Hand> for Cut {
     ghost use Rattle.std.specs.Prelude.{[]};
-    ghost use Rattle.mark_worklist.specs.Hands.{hand, joined};
+    ghost use Rattle.mark_worklist.specs.Hands.{hand, hands_joined};
 
-    ghost both = { joined };
+    ghost both = { hands_joined };
 
     ghost spent = { hand 0 [] [] };
 }

@@ -3,7 +3,7 @@
 ghost use Rattle.std.specs.Prelude.{◌≡◌, ◌≤◌, ◌<◌, ◌&&◌, true, false, length};
 ghost use Rattle.std.specs.Prelude.{IfErr, OnOk, MatchOption};
 ghost use Rattle.mark_worklist.specs.Hands.{WasEmpty};
-ghost use Rattle.mark_worklist.specs.Shares.{pushed, popped, refused_once, last_count};
+ghost use Rattle.mark_worklist.specs.Shares.{share_pushed, popped, refused_once, last_count};
 ghost use Rattle.mark_worklist.specs.Shares.{MovedFrom, Stole, StoleNone, IsSameShare};
 
 use crate::ends::{OtherEnd, OwnEnd};
@@ -59,7 +59,7 @@ impl Share {
     /// Puts an item on its own list. Want of memory is free, and so is a push once 2^60 items may have
     /// come onto the list: the item is handed back.
     pub fn push(&mut self, a: u32) -> Result<(), Refused>
-        ensures done { OnOk result (self.new ≡ pushed self.old a) }
+        ensures done { OnOk result (self.new ≡ share_pushed self.old a) }
         ensures refused { IfErr result (λ back.
             (back.0 ≡ a) × (self.new ≡ refused_once self.old)) }
         ensures same { IsSameShare self.old self.new }

@@ -3,11 +3,11 @@
 
 ghost use Rattle.std.specs.Prelude.{◌≡◌, ◌≤◌, ◌<◌, ◌++◌, Some, [], length, min, slice_set};
 ghost use Rattle.std.specs.Prelude.{IfErr, OnOk, MatchOption};
-ghost use Rattle.mark_worklist.specs.Shares.{pushed, refused_once as refused_at};
+ghost use Rattle.mark_worklist.specs.Shares.{share_pushed, refused_once, last_count};
 ghost use Rattle.mark_worklist.specs.Families.{at};
-ghost use Rattle.mark_worklist.specs.Joining.{put_by, taken_by, refused_by, IsTaken};
-ghost use Rattle.mark_worklist.specs.Joining.{AreAllShares, AreJoined, HaveSameItems};
-ghost use Rattle.mark_worklist.specs.Lists.{last_count, IsOneMore};
+ghost use Rattle.mark_worklist.specs.Joining.{put_by, taken_by, refused_by, IsTakenOrLeft};
+ghost use Rattle.mark_worklist.specs.Joining.{AreAllShares, EndsAreJoined, HaveSameItems};
+ghost use Rattle.mark_worklist.specs.Lists.{IsOneMore};
 ghost use Rattle.mark_worklist.specs.Left.{shares_in, IsLeftIn};
 
 use crate::left::{Addresses, left_on, without};
@@ -20,10 +20,11 @@ use ghost_values::GhostValue;
 pub(crate) fn push_out(shared: &mut Option<SharedList>, a: u32) -> Result<(), Refused>
     requires some { shared.old ≡ Some (shares_in shared.old) }
     ensures done { OnOk result (shared.new
-        ≡ Some (slice_set (shares_in shared.old) 0 (pushed (at (shares_in shared.old) 0) a))) }
+        ≡ Some (slice_set (shares_in shared.old) 0
+        (share_pushed (at (shares_in shared.old) 0) a))) }
     ensures refused { IfErr result (λ back. (back.0 ≡ a) × (shared.new
         ≡ Some (slice_set (shares_in shared.old) 0
-        (refused_at (at (shares_in shared.old) 0))))) }
+        (refused_once (at (shares_in shared.old) 0))))) }
     ensures fits { (at (shares_in shared.old) 0).refused ≤ last_count }
     ensures own { 0 < length (shares_in shared.old) }
 {
@@ -66,9 +67,9 @@ pub(crate) fn take_in(
     ensures taken { result.0.taken ≡ length (taken_by (shares_in shared.old ++ shares.items)) }
     ensures count { result.0.left ≡ length left.new.value }
     ensures left { IsLeftIn shared.new left.new.value }
-    ensures items { IsTaken (shares_in shared.old ++ shares.items) left.new.value }
+    ensures items { IsTakenOrLeft (shares_in shared.old ++ shares.items) left.new.value }
     ensures same { HaveSameItems (shares_in shared.old ++ shares.items) (shares_in shared.new)
-        × AreJoined (shares_in shared.new) }
+        × EndsAreJoined (shares_in shared.new) }
     ensures refused { result.1
         ≡ min (refused_by (shares_in shared.old ++ shares.items)) last_count }
 {

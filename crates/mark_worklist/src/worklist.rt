@@ -4,10 +4,11 @@ ghost use Rattle.std.specs.Prelude.{◌≡◌, ◌≤◌, ◌<◌, ◌++◌, Som
 ghost use Rattle.std.specs.Prelude.{IfErr, IfOk, OnOk, MatchOption};
 ghost use Rattle.mark_worklist.specs.Hands.{all_parts};
 ghost use Rattle.mark_worklist.specs.Families.{at};
-ghost use Rattle.mark_worklist.specs.Joining.{put_by, taken_by, refused_by, IsTaken};
-ghost use Rattle.mark_worklist.specs.Joining.{AreAllShares, AreJoined, HaveSameItems};
-ghost use Rattle.mark_worklist.specs.Lists.{no_items, as_own, IsShared, IsPushed, IsOneMore};
-ghost use Rattle.mark_worklist.specs.Lists.{refused_once, last_count};
+ghost use Rattle.mark_worklist.specs.Joining.{put_by, taken_by, refused_by, IsTakenOrLeft};
+ghost use Rattle.mark_worklist.specs.Joining.{AreAllShares, EndsAreJoined, HaveSameItems};
+ghost use Rattle.mark_worklist.specs.Lists.{no_items, as_own, IsShared, IsPutOnList, IsOneMore};
+ghost use Rattle.mark_worklist.specs.Lists.{list_refused_once};
+ghost use Rattle.mark_worklist.specs.Shares.{last_count};
 
 use crate::left::{Addresses, none};
 use crate::lists::{SharedList, Tally};
@@ -39,13 +40,13 @@ pub struct Worklist {
 
 impl Model for Worklist {
     ghost use Rattle.mark_worklist.specs.Lists.{ListState};
-    ghost use Rattle.mark_worklist.specs.Left.{state_of, IsKept};
+    ghost use Rattle.mark_worklist.specs.Left.{list_state_of, IsListKept};
 
     ghost Value = { ListState };
 
-    ghost view = { λ l. state_of l.out l.items.items l.refused l.idle l.shared l.left.value };
+    ghost view = { λ l. list_state_of l.out l.items.items l.refused l.idle l.shared l.left.value };
 
-    ghost invariant = { λ l. IsKept l.out l.items.items l.idle l.shared l.left.value };
+    ghost invariant = { λ l. IsListKept l.out l.items.items l.idle l.shared l.left.value };
 }
 
 impl Worklist {
@@ -87,9 +88,9 @@ impl Worklist {
 
     /// Puts an address on the list. Want of memory is free: the address is handed back.
     pub fn push(&mut self, a: u32) -> Result<(), Refused>
-        ensures done { OnOk result (IsPushed self.old a self.new) }
+        ensures done { OnOk result (IsPutOnList self.old a self.new) }
         ensures refused { IfErr result (λ back.
-            (back.0 ≡ a) × (self.new ≡ refused_once self.old)) }
+            (back.0 ≡ a) × (self.new ≡ list_refused_once self.old)) }
         ensures fits { self.old.refused ≤ last_count }
         ensures own { self.new.whole ≡ false → self.new ≡ as_own self.new.shares }
     {
@@ -145,9 +146,9 @@ impl Worklist {
         ensures pushed { result.pushed ≡ length (put_by (self.old.shares ++ shares.items)) }
         ensures taken { result.taken ≡ length (taken_by (self.old.shares ++ shares.items)) }
         ensures left { result.left ≡ length self.new.items }
-        ensures items { IsTaken (self.old.shares ++ shares.items) self.new.items }
+        ensures items { IsTakenOrLeft (self.old.shares ++ shares.items) self.new.items }
         ensures same { HaveSameItems (self.old.shares ++ shares.items) self.new.shares
-            × AreJoined self.new.shares }
+            × EndsAreJoined self.new.shares }
         ensures refused { self.new.refused
             ≡ min (refused_by (self.old.shares ++ shares.items)) last_count }
         ensures whole { self.new.whole ≡ true }

@@ -4,7 +4,7 @@ use Rattle.std.specs.List.{Contains}
 use Rattle.std.proofs.lemmas.Bool.{true≢false}
 use Rattle.std.proofs.lemmas.List.Elements.{Contains-push}
 use Rattle.pair_notes.specs.Notes.{NotesState, note_of, refusals_in}
-use Rattle.mark_worklist.specs.Shares.{ShareState, taken_of}
+use Rattle.mark_worklist.specs.Shares.{ShareState, taken_by_share}
 use Rattle.marker_crew.specs.declared.draining.Drained.{Drained}
 use Rattle.marker_crew.specs.Drains.{AreDealtWith, IsTaken}
 use Rattle.marker_crew.specs.Stages.{Stage, Works, IsDealtWith, Notes}
@@ -19,14 +19,14 @@ dealt_stays s t a works dealt fine = elim (dealt (untold (refusals_in s.notes) (
   ]
 ]
 
-pub all_dealt_stay : (before : ShareState) (s t : Stage) → Works s t → taken_of t.share ≡ taken_of s.share → AreDealtWith before s → AreDealtWith before t
+pub all_dealt_stay : (before : ShareState) (s t : Stage) → Works s t → taken_by_share t.share ≡ taken_by_share s.share → AreDealtWith before s → AreDealtWith before t
 all_dealt_stay before s t works same dealt a there = elim (dealt a (subst (λ xs. Contains xs a) same there)) [
   | inl first ↦ inl first
   | inr is ↦ inr (dealt_stays s t a works is)
 ]
 
 -- one item more was taken, and is dealt with
-pub one_dealt : (before : ShareState) (s t : Stage) (h : ShareState) (a : ℕ) → Works s t → AreDealtWith before s → IsTaken s.share a h → taken_of t.share ≡ taken_of h
+pub one_dealt : (before : ShareState) (s t : Stage) (h : ShareState) (a : ℕ) → Works s t → AreDealtWith before s → IsTaken s.share a h → taken_by_share t.share ≡ taken_by_share h
     → IsDealtWith t a → AreDealtWith before t
 one_dealt before s t h a works dealt taken same is b there = elim (taken.only b (subst (λ xs. Contains xs b) same there)) [
   | inl earlier ↦ elim (dealt b earlier) [ inl first ↦ inl first | inr done ↦ inr (dealt_stays s t b works done) ]

@@ -8,12 +8,12 @@ use Rattle.std.proofs.lemmas.List.{length-append, length-map}
 use Rattle.std.proofs.lemmas.List.Elements.{Contains-append_left, Contains-append_right, Contains-append_cases, Contains-push, Contains-push_cases}
 use Rattle.std.proofs.lemmas.List.Folds.{flat_map-map}
 use Rattle.mark_worklist.specs.Ends.{OtherState}
-use Rattle.mark_worklist.specs.Shares.{ShareState, IsSameShare, taken_of, pushed, popped, refused_once, Stole, StoleNone}
+use Rattle.mark_worklist.specs.Shares.{ShareState, IsSameShare, taken_by_share, share_pushed, popped, refused_once, Stole, StoleNone}
 use Rattle.marker_crew.specs.Drains.{IsIdle, IsTaken}
 
 -- ---- it has the same lists
 
-pub same_pushed : (h k : ShareState) (a : ℕ) → k ≡ pushed h a → IsSameShare h k
+pub same_pushed : (h k : ShareState) (a : ℕ) → k ≡ share_pushed h a → IsSameShare h k
 same_pushed h k a is = subst (IsSameShare h) (sym is) (record { number = refl; own = refl; parts = refl; even = λ even. even; others = refl })
 
 pub same_refused : (h k : ShareState) → k ≡ refused_once h → IsSameShare h k
@@ -72,7 +72,7 @@ one_longer (xs ∷ xss) (suc p) a low =
       one_longer xss p a (omega (arith, low)),
     )
 
-taken_from : (h : ShareState) → taken_of h ≡ h.own.hand.taken ++ items (map (λ (e : OtherState). e.taken) h.others)
+taken_from : (h : ShareState) → taken_by_share h ≡ h.own.hand.taken ++ items (map (λ (e : OtherState). e.taken) h.others)
 taken_from h = ap (λ xs. h.own.hand.taken ++ xs) (sym (flat_map-map (λ (xs : List ℕ). xs) (λ (e : OtherState). e.taken) h.others))
 
 -- ---- an item is popped, or stolen
@@ -80,7 +80,7 @@ taken_from h = ap (λ xs. h.own.hand.taken ++ xs) (sym (flat_map-map (λ (xs : L
 pub popped_is : (h k : ShareState) (a : ℕ) → k ≡ popped h a → IsTaken h a k
 popped_is h k a is =
     let others : List ℕ = flat_map (λ (e : OtherState). e.taken) h.others in
-    let now : taken_of k ≡ (h.own.hand.taken ++ a ∷ []) ++ others = ap taken_of is in
+    let now : taken_by_share k ≡ (h.own.hand.taken ++ a ∷ []) ++ others = ap taken_by_share is in
     record {
       count = omega (
         arith,
@@ -107,7 +107,7 @@ stolen_is : (h k : ShareState) (a : ℕ) → Stole h a k → IsTaken h a k
 stolen_is h k a stole =
     let before : List (List ℕ) = map (λ (e : OtherState). e.taken) h.others in
     let own : k.own.hand.taken ≡ h.own.hand.taken = ap (λ (s : ShareState). s.own.hand.taken) stole.rest in
-    let now : taken_of k ≡ h.own.hand.taken ++ items (set before stole.place (get_or before stole.place [] ++ a ∷ [])) =
+    let now : taken_by_share k ≡ h.own.hand.taken ++ items (set before stole.place (get_or before stole.place [] ++ a ∷ [])) =
     taken_from k ∙ ap (λ xs. xs ++ items (map (λ (e : OtherState). e.taken) k.others)) own ∙ ap (λ xss. h.own.hand.taken ++ items xss) stole.taken in
     let low : stole.place < length before = omega (arith, stole.within, length-map h.others (λ (e : OtherState). e.taken)) in
     record {
@@ -149,14 +149,14 @@ same_taken (e ∷ old) (f ∷ new) as_many each =
     ap (λ xs. xs ++ flat_map (λ (x : OtherState). x.taken) new) (each 0 e (omega arith))
     ∙ ap (λ xs. e.taken ++ xs) (same_taken old new (omega (arith, as_many)) (λ k d low. each (suc k) d (omega (arith, low))))
 
-none_stolen : (h k : ShareState) → StoleNone h k → taken_of k ≡ taken_of h
+none_stolen : (h k : ShareState) → StoleNone h k → taken_by_share k ≡ taken_by_share h
 none_stolen h k none =
     ap (λ xs. xs ++ flat_map (λ (e : OtherState). e.taken) k.others) (ap (λ (s : ShareState). s.own.hand.taken) none.rest)
     ∙ ap (λ xs. h.own.hand.taken ++ xs) (same_taken h.others k.others none.as_many (λ i d low. (none.each i d low).taken))
 
 -- ---- a pop that found nothing, and then a steal
 
-taken_after : (h k l : ShareState) (a : ℕ) → taken_of k ≡ taken_of h → IsTaken k a l → IsTaken h a l
+taken_after : (h k l : ShareState) (a : ℕ) → taken_by_share k ≡ taken_by_share h → IsTaken k a l → IsTaken h a l
 taken_after h k l a same is = record {
   count = omega (arith, is.count, ap length same);
   kept = λ b there. is.kept b (subst (λ xs. Contains xs b) (sym same) there);
@@ -165,21 +165,21 @@ taken_after h k l a same is = record {
 }
 
 pub then_stolen : (h k l : ShareState) (found : Option ℕ) → k ≡ record h { pop_found_none = true } → MatchOption found (StoleNone k l) (λ a. Stole k a l)
-    → MatchOption found ((taken_of l ≡ taken_of h) × IsIdle l) (λ a. IsTaken h a l)
+    → MatchOption found ((taken_by_share l ≡ taken_by_share h) × IsIdle l) (λ a. IsTaken h a l)
 then_stolen h k l None pop none = (
-  none_stolen k l none ∙ ap taken_of pop,
+  none_stolen k l none ∙ ap taken_by_share pop,
   (ap (λ (s : ShareState). s.pop_found_none) none.rest ∙ ap (λ (s : ShareState). s.pop_found_none) pop, ap (λ (s : ShareState). s.steal_found_none) none.rest),
 )
-then_stolen h k l (Some a) pop stole = taken_after h k l a (ap taken_of pop) (stolen_is k l a stole)
+then_stolen h k l (Some a) pop stole = taken_after h k l a (ap taken_by_share pop) (stolen_is k l a stole)
 
 -- ---- one look after another
 
-pub then_found : (h k l : ShareState) (found : Option ℕ) → taken_of k ≡ taken_of h → MatchOption found ((taken_of l ≡ taken_of k) × IsIdle l) (λ a. IsTaken k a l)
-    → MatchOption found ((taken_of l ≡ taken_of h) × IsIdle l) (λ a. IsTaken h a l)
+pub then_found : (h k l : ShareState) (found : Option ℕ) → taken_by_share k ≡ taken_by_share h → MatchOption found ((taken_by_share l ≡ taken_by_share k) × IsIdle l) (λ a. IsTaken k a l)
+    → MatchOption found ((taken_by_share l ≡ taken_by_share h) × IsIdle l) (λ a. IsTaken h a l)
 then_found h k l None same none = (none.0 ∙ same, none.1)
 then_found h k l (Some a) same taken = taken_after h k l a same taken
 
-pub found_none : (h l : ShareState) (found : Option ℕ) → is_some found ≡ false → MatchOption found ((taken_of l ≡ taken_of h) × IsIdle l) (λ a. IsTaken h a l)
-    → (taken_of l ≡ taken_of h) × IsIdle l
+pub found_none : (h l : ShareState) (found : Option ℕ) → is_some found ≡ false → MatchOption found ((taken_by_share l ≡ taken_by_share h) × IsIdle l) (λ a. IsTaken h a l)
+    → (taken_by_share l ≡ taken_by_share h) × IsIdle l
 found_none h l None none told = told
 found_none h l (Some a) none told = absurd (true≢false none)

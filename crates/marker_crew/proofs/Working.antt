@@ -12,7 +12,7 @@ use Rattle.mark_worklist.specs.Told.{told_same, told_once, told_then}
 use Rattle.pair_notes.specs.Notes.{NotesState, note_of, noted, overflowed, refusals_in}
 use Rattle.page_words.specs.Markers.{MarkerSeatView}
 use Rattle.mark_worklist.specs.Kept.{same-share, share-then}
-use Rattle.mark_worklist.specs.Shares.{ShareState, IsSameShare, put_of, taken_of, last_count, more_counted}
+use Rattle.mark_worklist.specs.Shares.{ShareState, IsSameShare, put_of, taken_by_share, last_count, more_counted}
 use Rattle.marker_crew.specs.declared.draining.Drained.{Drained}
 use Rattle.marker_crew.specs.Stages.{Stage, stage, Lists, Notes, Keeps, IsLater, HasCause, IsNoteOf, HasRisen, Works, OnlyLooks}
 use Rattle.marker_crew.proofs.Shares.{same_pushed, same_refused}
@@ -145,7 +145,7 @@ looks_work v w h n d x = record {
 module _ (v w : MarkerSeatView) (h k : ShareState) (n : NotesState) (d e : Drained) (a : ℕ) (heap : w.heap ≡ v.heap) (types : w.types ≡ v.types)
     (marked : w.marked ≡ v.marked ++ a ∷ []) (traced : w.traced ≡ v.traced) (noted_same : w.noted ≡ v.noted) (done : w.done ≡ v.done) (missed : w.missed ≡ v.missed)
     (fits : h.refused ≤ last_count) where
-  marks_put : IsSameShare h k → put_of k ≡ put_of h ++ a ∷ [] → taken_of k ≡ taken_of h → k.refused ≡ h.refused → e ≡ d → Works (stage v h n d) (stage w k n e)
+  marks_put : IsSameShare h k → put_of k ≡ put_of h ++ a ∷ [] → taken_by_share k ≡ taken_by_share h → k.refused ≡ h.refused → e ≡ d → Works (stage v h n d) (stage w k n e)
   marks_put lists put took refused same = record {
     later = record {
       heap = heap;
@@ -157,7 +157,7 @@ module _ (v w : MarkerSeatView) (h k : ShareState) (n : NotesState) (d e : Drain
       done = keeps_all v.done w.done done;
       missed = keeps_all v.missed w.missed missed;
       put = keeps_more (put_of h) (put_of k) (a ∷ []) put;
-      taken = keeps_all (taken_of h) (taken_of k) took;
+      taken = keeps_all (taken_by_share h) (taken_by_share k) took;
       notes = λ x there. there;
       overflow = λ fine. sym (ap (λ (x : Drained). x.overflow) same) ∙ fine;
     };
@@ -177,7 +177,7 @@ module _ (v w : MarkerSeatView) (h k : ShareState) (n : NotesState) (d e : Drain
     cause = λ told. inl (sym (ap (λ (x : Drained). x.overflow) same) ∙ told);
   }
 
-  marks_refused : IsSameShare h k → put_of k ≡ put_of h → taken_of k ≡ taken_of h → k.refused ≡ more_counted h.refused 1 → e ≡ record d { overflow = true } → Works (stage v h n d) (stage w k n e)
+  marks_refused : IsSameShare h k → put_of k ≡ put_of h → taken_by_share k ≡ taken_by_share h → k.refused ≡ more_counted h.refused 1 → e ≡ record d { overflow = true } → Works (stage v h n d) (stage w k n e)
   marks_refused lists put took refused told = record {
     later = record {
       heap = heap;
@@ -189,7 +189,7 @@ module _ (v w : MarkerSeatView) (h k : ShareState) (n : NotesState) (d e : Drain
       done = keeps_all v.done w.done done;
       missed = keeps_all v.missed w.missed missed;
       put = keeps_all (put_of h) (put_of k) put;
-      taken = keeps_all (taken_of h) (taken_of k) took;
+      taken = keeps_all (taken_by_share h) (taken_by_share k) took;
       notes = λ x there. there;
       overflow = λ fine. absurd (true≢false (sym (ap (λ (x : Drained). x.overflow) told) ∙ fine));
     };
@@ -205,8 +205,8 @@ module _ (v w : MarkerSeatView) (h k : ShareState) (n : NotesState) (d e : Drain
 
   pub marks_work : Lists h d a k e → Works (stage v h n d) (stage w k n e)
   marks_work listed = elim listed [
-    | inl put ↦ marks_put (same_pushed h k a put.0) (ap put_of put.0) (ap taken_of put.0) (ap (λ (x : ShareState). x.refused) put.0) put.1
-    | inr refused ↦ marks_refused (same_refused h k refused.0) (ap put_of refused.0) (ap taken_of refused.0) (ap (λ (x : ShareState). x.refused) refused.0) refused.1
+    | inl put ↦ marks_put (same_pushed h k a put.0) (ap put_of put.0) (ap taken_by_share put.0) (ap (λ (x : ShareState). x.refused) put.0) put.1
+    | inr refused ↦ marks_refused (same_refused h k refused.0) (ap put_of refused.0) (ap taken_by_share refused.0) (ap (λ (x : ShareState). x.refused) refused.0) refused.1
   ]
 
 -- ---- a note
@@ -332,7 +332,7 @@ works_with_more s v h n d more x = record {
 }
 
 -- an item was taken, and nothing else has changed
-pub take_works : (v : MarkerSeatView) (h k : ShareState) (n : NotesState) (d : Drained) → IsSameShare h k → put_of k ≡ put_of h → Keeps (taken_of h) (taken_of k)
+pub take_works : (v : MarkerSeatView) (h k : ShareState) (n : NotesState) (d : Drained) → IsSameShare h k → put_of k ≡ put_of h → Keeps (taken_by_share h) (taken_by_share k)
     → k.refused ≡ h.refused → Works (stage v h n d) (stage v k n d)
 take_works v h k n d lists put took refused = record {
   later = record {
@@ -371,7 +371,7 @@ no_pair holder word p offset there = absurd (omega (arith, there.1))
 
 -- the place of an item was noted, with nothing else noted
 pub item_noted : (v w : MarkerSeatView) (h : ShareState) (n o : NotesState) (d e : Drained) (a : ℕ) → OnlyLooks v w
-    → Contains (taken_of h) a → HasCause w a → n.refused ≤ last_count → Notes n d a 0 o e → Works (stage v h n d) (stage w h o e)
+    → Contains (taken_by_share h) a → HasCause w a → n.refused ≤ last_count → Notes n d a 0 o e → Works (stage v h n d) (stage w h o e)
 item_noted v w h n o d e a looks took why fits made =
     note_works v w h n o d e a 0 looks.heap looks.types looks.marked looks.traced [] (looks.noted ∙ sym (append-nil v.noted)) (no_pair a 0) looks.done
     looks.missed (inr (refl, (took, why))) fits made

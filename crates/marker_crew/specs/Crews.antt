@@ -4,7 +4,7 @@ use Rattle.std.specs.List.{list_any}
 use Rattle.pair_notes.specs.Notes.{NotesState}
 use Rattle.page_words.specs.Markers.{MarkerSeatView, joined_with}
 use Rattle.page_words.specs.Seat.{SeatView}
-use Rattle.mark_worklist.specs.Shares.{ShareState, taken_of}
+use Rattle.mark_worklist.specs.Shares.{ShareState, taken_by_share}
 use Rattle.marker_crew.specs.declared.crew.CrewResult.{CrewResult}
 use Rattle.marker_crew.specs.declared.draining.Drained.{Drained}
 use Rattle.marker_crew.specs.Drains.{nothing_yet, AreDealtWith, IsIdle}
@@ -31,7 +31,7 @@ pub record HasDrained (began : Marker) (end : Ending) : Type 0 where
   pub hand : end.seat.hand ≡ None
   pub most : end.drained.traced ≤ began.seat.count
   pub done : end.drained.more ≡ false → IsIdle end.share
-  pub more : end.drained.more ≡ true → (end.seat.halted ≡ true) ⊎ (length (taken_of end.share) ≡ length (taken_of began.share) + began.seat.count)
+  pub more : end.drained.more ≡ true → (end.seat.halted ≡ true) ⊎ (length (taken_by_share end.share) ≡ length (taken_by_share began.share) + began.seat.count)
 
 -- a crew: how many markers it has, the groups of notes that are here (the owner's first; while it runs that one alone), the shares
 -- that it brought back, and the markers that run, as they began

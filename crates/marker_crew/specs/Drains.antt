@@ -1,6 +1,6 @@
 -- What a drain takes from the lists.
 use Rattle.std.specs.Prelude.{◌≡◌, ◌⊎◌, ℕ, ◌+◌, true, false, length, Contains}
-use Rattle.mark_worklist.specs.Shares.{ShareState, taken_of}
+use Rattle.mark_worklist.specs.Shares.{ShareState, taken_by_share}
 use Rattle.marker_crew.specs.declared.draining.Drained.{Drained}
 use Rattle.marker_crew.specs.Stages.{Stage, Keeps, IsDealtWith}
 
@@ -14,11 +14,11 @@ IsIdle h = (h.pop_found_none ≡ true) × (h.steal_found_none ≡ true)
 
 -- one item was taken, and this is it
 pub record IsTaken (old : ShareState) (a : ℕ) (new : ShareState) : Type 0 where
-  pub count : length (taken_of new) ≡ length (taken_of old) + 1
-  pub kept : Keeps (taken_of old) (taken_of new)
-  pub there : Contains (taken_of new) a
-  pub only : (b : ℕ) → Contains (taken_of new) b → Contains (taken_of old) b ⊎ (b ≡ a)
+  pub count : length (taken_by_share new) ≡ length (taken_by_share old) + 1
+  pub kept : Keeps (taken_by_share old) (taken_by_share new)
+  pub there : Contains (taken_by_share new) a
+  pub only : (b : ℕ) → Contains (taken_by_share new) b → Contains (taken_by_share old) b ⊎ (b ≡ a)
 
 -- each item that was taken since the share was this is dealt with
 abbrev pub AreDealtWith : ShareState → Stage → Type 0
-AreDealtWith before t = (a : ℕ) → Contains (taken_of t.share) a → Contains (taken_of before) a ⊎ IsDealtWith t a
+AreDealtWith before t = (a : ℕ) → Contains (taken_by_share t.share) a → Contains (taken_by_share before) a ⊎ IsDealtWith t a

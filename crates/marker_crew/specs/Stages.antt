@@ -4,7 +4,7 @@ use Rattle.mark_worklist.specs.Refusals.{TellsRefused}
 use Rattle.pair_notes.specs.declared.notes.Note.{Note}
 use Rattle.pair_notes.specs.Notes.{NotesState, note_of, noted, overflowed, refusals_in}
 use Rattle.page_words.specs.Markers.{MarkerSeatView}
-use Rattle.mark_worklist.specs.Shares.{ShareState, IsSameShare, put_of, taken_of, pushed, refused_once, last_count}
+use Rattle.mark_worklist.specs.Shares.{ShareState, IsSameShare, put_of, taken_by_share, share_pushed, refused_once, last_count}
 use Rattle.marker_crew.specs.declared.draining.Drained.{Drained}
 
 -- a marker's seat, its share of the lists, its notes, and what it has told of the drain so far
@@ -27,7 +27,7 @@ with_overflow d = record d { overflow = true }
 -- the place was put on the share's list, or the push was refused, which is told
 abbrev pub Lists : ShareState → Drained → ℕ → ShareState → Drained → Type 0
 Lists old before place new after =
-    ((new ≡ pushed old place) × (after ≡ before)) ⊎ ((new ≡ refused_once old) × (after ≡ with_overflow before))
+    ((new ≡ share_pushed old place) × (after ≡ before)) ⊎ ((new ≡ refused_once old) × (after ≡ with_overflow before))
 
 -- the note was made, or was refused, which is told
 abbrev pub Notes : NotesState → Drained → ℕ → ℕ → NotesState → Drained → Type 0
@@ -52,7 +52,7 @@ pub record IsLater (s t : Stage) : Type 0 where
   pub done : Keeps s.seat.done t.seat.done
   pub missed : Keeps s.seat.missed t.seat.missed
   pub put : Keeps (put_of s.share) (put_of t.share)
-  pub taken : Keeps (taken_of s.share) (taken_of t.share)
+  pub taken : Keeps (taken_by_share s.share) (taken_by_share t.share)
   pub notes : Keeps s.notes.notes t.notes.notes
   pub overflow : t.drained.overflow ≡ false → s.drained.overflow ≡ false
 
@@ -75,7 +75,7 @@ HasCause v a = Contains v.missed a ⊎ (v.count ≤ a)
 abbrev pub IsNoteOf : MarkerSeatView → ShareState → Note → Type 0
 IsNoteOf v h note =
     (Contains v.noted (note.holder, note.word) × Contains v.traced note.holder)
-    ⊎ ((note.word ≡ 0) × (Contains (taken_of h) note.holder × HasCause v note.holder))
+    ⊎ ((note.word ≡ 0) × (Contains (taken_by_share h) note.holder × HasCause v note.holder))
 
 -- a count of what was refused has risen, or stands at its last value
 abbrev pub HasRisen : ℕ → ℕ → Type 0

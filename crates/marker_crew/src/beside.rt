@@ -1,7 +1,7 @@
 // The owner's step of marking beside a running crew.
 
 ghost use Rattle.std.specs.Prelude.{◌≡◌, ◌⊎◌, ◌+◌, ◌-◌, ◌^◌, ◌≤◌, true, false, None, length};
-ghost use Rattle.mark_worklist.specs.Shares.{taken_of};
+ghost use Rattle.mark_worklist.specs.Shares.{taken_by_share};
 ghost use Rattle.marker_crew.specs.Stages.{stage, Works};
 ghost use Rattle.marker_crew.specs.Drains.{nothing_yet, AreDealtWith, IsIdle};
 ghost use Rattle.marker_crew.specs.Steps.{HasStepped};
@@ -36,7 +36,7 @@ pub fn step_beside(
     ensures most { result.traced ≤ most }
     ensures done { result.more ≡ false → IsIdle share.new }
     ensures more { result.more ≡ true → (result.traced ≡ most)
-        ⊎ (length (taken_of share.new) ≡ length (taken_of share.old) + (2 ^ 32 - 1)) }
+        ⊎ (length (taken_by_share share.new) ≡ length (taken_by_share share.old) + (2 ^ 32 - 1)) }
 {
     let mut marker = words.split(seat);
     let drained = step(words, types, &mut marker, share, notes, most);
@@ -63,7 +63,7 @@ fn step(
     ensures most { result.traced ≤ most }
     ensures done { result.more ≡ false → IsIdle share.new }
     ensures more { result.more ≡ true → (result.traced ≡ most)
-        ⊎ (length (taken_of share.new) ≡ length (taken_of share.old) + (2 ^ 32 - 1)) }
+        ⊎ (length (taken_by_share share.new) ≡ length (taken_by_share share.old) + (2 ^ 32 - 1)) }
 {
     let manner = Manner {
         gate: &FreeGate,

@@ -1,7 +1,7 @@
 // A marker takes items from the lists and deals with each.
 
 ghost use Rattle.std.specs.Prelude.{◌≡◌, ◌⊎◌, ◌≤◌, ◌+◌, true, false, None, length};
-ghost use Rattle.mark_worklist.specs.Shares.{taken_of};
+ghost use Rattle.mark_worklist.specs.Shares.{taken_by_share};
 ghost use Rattle.marker_crew.specs.Stages.{stage, Works};
 ghost use Rattle.marker_crew.specs.Drains.{nothing_yet, AreDealtWith, IsIdle};
 
@@ -46,7 +46,7 @@ pub fn drain<G: Gate>(
     ensures most { result.traced ≤ budget }
     ensures done { result.more ≡ false → IsIdle share.new }
     ensures more { result.more ≡ true → (seat.new.halted ≡ true)
-        ⊎ (length (taken_of share.new) ≡ length (taken_of share.old) + budget) }
+        ⊎ (length (taken_by_share share.new) ≡ length (taken_by_share share.old) + budget) }
 {
     let manner = Manner { gate, worker };
     let mut drained = Drained {

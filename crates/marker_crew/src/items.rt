@@ -2,7 +2,7 @@
 
 ghost use Rattle.std.specs.Prelude.{◌≡◌, ◌⊎◌, ◌<◌, ◌≤◌, ◌+◌, ◌^◌, true, None, Contains};
 ghost use Rattle.marker_core.specs.Bodies.{holds};
-ghost use Rattle.mark_worklist.specs.Shares.{ShareState, taken_of};
+ghost use Rattle.mark_worklist.specs.Shares.{ShareState, taken_by_share};
 ghost use Rattle.marker_crew.specs.Stages.{stage, Works, IsDealtWith};
 
 use crate::draining::Drained;
@@ -32,11 +32,11 @@ pub(crate) fn deal_with<G: Gate>(
     requires types { types.now ≡ seat.old.types }
     requires hand { seat.old.hand ≡ None }
     requires few { drained.old.traced + 1 < 2 ^ 32 }
-    requires item { Contains (taken_of share.old) place }
+    requires item { Contains (taken_by_share share.old) place }
     ensures works { Works (stage seat.old share.old notes.old drained.old)
         (stage seat.new share.new notes.new drained.new) }
     ensures dealt { IsDealtWith (stage seat.new share.new notes.new drained.new) place }
-    ensures taken { taken_of share.new ≡ taken_of share.old }
+    ensures taken { taken_by_share share.new ≡ taken_by_share share.old }
     ensures hand { seat.new.hand ≡ None }
     ensures most { drained.new.traced ≤ drained.old.traced + 1 }
 {
@@ -63,11 +63,11 @@ fn trace_known<G: Gate>(
     requires hand { seat.old.hand ≡ None }
     requires known { holds seat.old.known place ≡ true }
     requires few { drained.old.traced + 1 < 2 ^ 32 }
-    requires item { Contains (taken_of share.old) place }
+    requires item { Contains (taken_by_share share.old) place }
     ensures works { Works (stage seat.old share.old notes.old drained.old)
         (stage seat.new share.new notes.new drained.new) }
     ensures dealt { IsDealtWith (stage seat.new share.new notes.new drained.new) place }
-    ensures taken { taken_of share.new ≡ taken_of share.old }
+    ensures taken { taken_by_share share.new ≡ taken_by_share share.old }
     ensures hand { seat.new.hand ≡ None }
     ensures most { drained.new.traced ≤ drained.old.traced + 1 }
 {
@@ -102,7 +102,7 @@ fn look_again(
     requires hand { seat.old.hand ≡ None }
     requires known { holds seat.old.known place ≡ true }
     requires failed { Contains seat.old.done place ⊎ Contains seat.old.missed place }
-    ensures works { (h : ShareState) → Contains (taken_of h) place
+    ensures works { (h : ShareState) → Contains (taken_by_share h) place
         → Works (stage seat.old h notes.old drained.old)
         (stage seat.new h notes.new drained.new) }
     ensures dealt { (h : ShareState)

@@ -5,7 +5,7 @@ ghost use Rattle.type_table.specs.declared.traced.TracedWord.TheVariants.{PairAt
 ghost use Rattle.marker_core.specs.Layout as layout;
 ghost use Rattle.pair_notes.specs.InHand.{hand_over, traced_in};
 ghost use Rattle.pair_notes.specs.Notes.{NotesState};
-ghost use Rattle.mark_worklist.specs.Shares.{taken_of};
+ghost use Rattle.mark_worklist.specs.Shares.{taken_by_share};
 ghost use Rattle.marker_crew.specs.Stages.{stage, Works};
 ghost use Rattle.marker_crew.specs.Hands.{IsAtTarget, IsAtWord, moved_on};
 
@@ -35,7 +35,7 @@ pub(crate) fn trace_object(
     requires hand { seat.old.hand ≡ hand_over place ty (traced_in seat.old.types ty) }
     ensures works { Works (stage seat.old share.old notes.old drained.old)
         (stage seat.new share.new notes.new drained.new) }
-    ensures taken { taken_of share.new ≡ taken_of share.old }
+    ensures taken { taken_by_share share.new ≡ taken_by_share share.old }
     ensures hand { seat.new.hand ≡ None }
     ensures count { drained.new.traced ≡ drained.old.traced }
 {
@@ -59,7 +59,7 @@ fn trace_word(
     requires hand { IsAtWord seat.old place word }
     ensures works { Works (stage seat.old share.old notes.old drained.old)
         (stage seat.new share.new notes.new drained.new) }
-    ensures taken { taken_of share.new ≡ taken_of share.old }
+    ensures taken { taken_by_share share.new ≡ taken_by_share share.old }
     ensures hand { seat.new.hand ≡ moved_on seat.old }
     ensures count { drained.new.traced ≡ drained.old.traced }
 {
@@ -84,7 +84,7 @@ fn trace_target(
     requires target { IsAtTarget seat.old a }
     ensures works { (n : NotesState) → Works (stage seat.old share.old n drained.old)
         (stage seat.new share.new n drained.new) }
-    ensures taken { taken_of share.new ≡ taken_of share.old }
+    ensures taken { taken_by_share share.new ≡ taken_by_share share.old }
     ensures hand { seat.new.hand ≡ moved_on seat.old }
     ensures count { drained.new.traced ≡ drained.old.traced }
 {
@@ -112,7 +112,7 @@ fn trace_pair(
     requires hand { IsAtWord seat.old place (PairAt offset) }
     ensures works { Works (stage seat.old share.old notes.old drained.old)
         (stage seat.new share.new notes.new drained.new) }
-    ensures taken { taken_of share.new ≡ taken_of share.old }
+    ensures taken { taken_by_share share.new ≡ taken_by_share share.old }
     ensures hand { seat.new.hand ≡ moved_on seat.old }
     ensures count { drained.new.traced ≡ drained.old.traced }
 {

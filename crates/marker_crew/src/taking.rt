@@ -1,7 +1,7 @@
 // The next item, from the share's own list or from another's.
 
 ghost use Rattle.std.specs.Prelude.{◌≡◌, MatchOption};
-ghost use Rattle.mark_worklist.specs.Shares.{IsSameShare, put_of, taken_of};
+ghost use Rattle.mark_worklist.specs.Shares.{IsSameShare, put_of, taken_by_share};
 ghost use Rattle.marker_crew.specs.Drains.{IsIdle, IsTaken};
 ghost use Rattle.marker_crew.specs.Stages.{OnlyLooks};
 
@@ -18,7 +18,7 @@ const LOOKS: u32 = 12;
 pub(crate) fn await_item(words: &Words, seat: &mut MarkerSeat, share: &mut Share) -> Option<u32>
     requires heap { seat.old.heap ≡ words.now }
     ensures taken { MatchOption result
-        ((taken_of share.new ≡ taken_of share.old) × IsIdle share.new)
+        ((taken_by_share share.new ≡ taken_by_share share.old) × IsIdle share.new)
         (λ a. IsTaken share.old a share.new) }
     ensures lists { IsSameShare share.old share.new }
     ensures same { (put_of share.new ≡ put_of share.old) × (share.new.refused ≡ share.old.refused) }
@@ -43,7 +43,7 @@ pub(crate) fn await_item(words: &Words, seat: &mut MarkerSeat, share: &mut Share
 /// An item of the share's own list, or else one of another's. None where the share is idle then.
 pub(crate) fn next_item(share: &mut Share) -> Option<u32>
     ensures taken { MatchOption result
-        ((taken_of share.new ≡ taken_of share.old) × IsIdle share.new)
+        ((taken_by_share share.new ≡ taken_by_share share.old) × IsIdle share.new)
         (λ a. IsTaken share.old a share.new) }
     ensures lists { IsSameShare share.old share.new }
     ensures same { (put_of share.new ≡ put_of share.old) × (share.new.refused ≡ share.old.refused) }

@@ -1,7 +1,7 @@
 // Notes of pairs whose key was not marked yet.
 
 ghost use Rattle.std.specs.Prelude.{◌≡◌, true, false, ◌<◌, ◌≤◌, length, Contains};
-ghost use Rattle.mark_worklist.specs.Lists.{last_count};
+ghost use Rattle.mark_worklist.specs.Shares.{last_count};
 ghost use Rattle.page_words.specs.Seat.{OnlyLooked};
 ghost use Rattle.pair_notes.specs.declared.notes.Note.{Note};
 ghost use Rattle.pair_notes.specs.Notes.{IsNote, no_notes, note_at, noted, overflowed, cleared};
@@ -34,7 +34,7 @@ pub struct Pairs {
 
 impl Model for Pairs {
     ghost use Rattle.std.specs.Prelude.{◌≤◌};
-    ghost use Rattle.mark_worklist.specs.Lists.{last_count};
+    ghost use Rattle.mark_worklist.specs.Shares.{last_count};
     ghost use Rattle.pair_notes.specs.Notes.{NotesState};
 
     ghost Value = { NotesState };

@@ -1,15 +1,15 @@
 use Rattle.std.proofs.Common.{◌≡◌, ℕ, ◌<◌, Bool, List, [], ◌∷◌, ◌++◌, length, map, get_or, min, true, false, cond, eqb, ◌&&◌, refl, sym, ap, ◌∙◌, subst, inl, inr, arith}
 use Rattle.std.proofs.lemmas.Bool.{eqb-true, false_from_ne_true}
 use Rattle.std.proofs.lemmas.List.{get_or-map, length-map}
-use Rattle.mark_worklist.specs.Lists.{ListState, last_count}
+use Rattle.mark_worklist.specs.Lists.{ListState}
 use Rattle.mark_worklist.specs.declared.marking.Marking.{Marking}
 use Rattle.page_words.specs.Markers.{new_marker}
 use Rattle.marker_core.specs.SeatSteps.{seat_ended}
 use Rattle.page_words.specs.Seat.{SeatView, side, stopped, with_mutator}
 use Rattle.mark_worklist.specs.Families.{at, nobody}
-use Rattle.mark_worklist.specs.Joining.{AreAllShares, IsTaken, refused_by}
+use Rattle.mark_worklist.specs.Joining.{AreAllShares, IsTakenOrLeft, refused_by}
 use Rattle.mark_worklist.specs.Kept.{all-shares}
-use Rattle.mark_worklist.specs.Shares.{ShareState, IsSameShare}
+use Rattle.mark_worklist.specs.Shares.{ShareState, IsSameShare, last_count}
 use Rattle.marker_crew.specs.Notes.{NotesState, no_notes, group_at}
 use Rattle.marker_crew.specs.Crews.{CrewState, Ending, HasDrained, Marker, joined_with_all}
 use Rattle.marker_crew.specs.Drains.{nothing_yet}
@@ -90,8 +90,8 @@ returns g c =
           joined.many joined.each (joined.seat ∙ ap (λ (x : SeatView). joined_with_all x (map (λ (e : Ending). e.seat) joined.ends)) stays)
           (omega (arith, c.join-joined.ensures.lent, ap (λ (x : SeatView). x.lent) stays, c.requires.crew.lent)) c.bodies_lie_apart.ensures
           (ap (λ (x : Marking). x.on) told.rest) (ap (λ (l : ListState). l.whole) list ∙ c.finish.ensures.whole)
-          (subst (λ (l : ListState). IsTaken (w.marking.list.shares ++ map (λ (e : Ending). e.share) joined.ends) l.items) (sym list)
-          (subst (λ l. IsTaken l c.finish.new.self.items) all c.finish.ensures.items))
+          (subst (λ (l : ListState). IsTakenOrLeft (w.marking.list.shares ++ map (λ (e : Ending). e.share) joined.ends) l.items) (sym list)
+          (subst (λ l. IsTakenOrLeft l c.finish.new.self.items) all c.finish.ensures.items))
           (ap (λ (l : ListState). l.refused) list ∙ c.finish.ensures.refused ∙ ap (λ l. min (refused_by l) last_count) all)
           told.kept
           (λ other. told.raised (λ same. other (ap (λ (l : ListState). l.refused) list ∙ same ∙ c.refused-refused.ensures)))

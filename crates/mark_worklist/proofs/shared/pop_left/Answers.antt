@@ -1,5 +1,5 @@
 use Rattle.std.proofs.Common.{rules, sym, subst}
-use Rattle.mark_worklist.specs.Joining.{IsTaken}
+use Rattle.mark_worklist.specs.Joining.{IsTakenOrLeft}
 use Rattle.mark_worklist.specs.Lists.{IsOneMore}
 use Rattle.mark_worklist.specs.Left.{IsLeftIn, IsLeftOn}
 use Rattle.mark_worklist.proofs.Without.{one_without}
@@ -13,7 +13,7 @@ returns-in_err-a-in-Some-clause-left c =
     record {
       joined = p.joined;
       known = p.known;
-      taken = subst (IsTaken c.pop.new.self) (sym (p.left left before.taken)) (p.none (search rules));
+      taken = subst (IsTakenOrLeft c.pop.new.self) (sym (p.left left before.taken)) (p.none (search rules));
     }
 
 pub returns-in_ok-a-in-Some-clause-left : goal.returns-in_ok-a-in-Some-clause-left
@@ -26,7 +26,7 @@ returns-in_ok-a-in-Some-clause-left c =
     subst (IsLeftOn c.pop.new.self) (sym c.without.ensures) (record {
       joined = p.joined;
       known = p.known;
-      taken = subst (IsTaken c.pop.new.self) (sym one.others) (t.1 one.before one.after one.all);
+      taken = subst (IsTakenOrLeft c.pop.new.self) (sym one.others) (t.1 one.before one.after one.all);
     })
 
 pub returns-in_ok-a-in-Some-clause-items : goal.returns-in_ok-a-in-Some-clause-items

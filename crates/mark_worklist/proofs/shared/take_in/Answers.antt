@@ -1,5 +1,5 @@
 use Rattle.std.proofs.Common.{◌≡◌, ◌++◌, ℕ, List, length, sym, ap, ◌∙◌, subst}
-use Rattle.mark_worklist.specs.Joining.{IsTaken}
+use Rattle.mark_worklist.specs.Joining.{IsTakenOrLeft}
 use Rattle.mark_worklist.specs.Left.{shares_in, left_on, IsLeftOn}
 use Rattle.mark_worklist.proofs.Without.{as_many_on, taken_on}
 use Rattle.mark_worklist.proofs.shared.take_in.Goals as goal
@@ -23,6 +23,6 @@ returns-clause-items c =
     let left = c.finish-tally.ensures.left in
     let old : c.in-Some.list ≡ shares_in c.args.shared.now = ap shares_in (sym c.in-Some.is) in
     let on : List ℕ = left_on c.finish-tally.new.self in
-    let taken : IsTaken (c.in-Some.list ++ c.args.shares.items) on =
+    let taken : IsTakenOrLeft (c.in-Some.list ++ c.args.shares.items) on =
     taken_on (c.in-Some.list ++ c.args.shares.items) c.finish-tally.new.self left.0 left.2 left.3 in
-    subst (IsTaken (shares_in c.args.shared.now ++ c.args.shares.items)) (sym c.left_on.ensures) (subst (λ l. IsTaken (l ++ c.args.shares.items) on) old taken)
+    subst (IsTakenOrLeft (shares_in c.args.shared.now ++ c.args.shares.items)) (sym c.left_on.ensures) (subst (λ l. IsTakenOrLeft (l ++ c.args.shares.items) on) old taken)

@@ -1,6 +1,6 @@
 use Rattle.std.proofs.Common.{◌≡◌, ◌+◌, length, sym, ap, ◌∙◌, subst, inl, inr, arith}
 use Rattle.page_words.specs.Seat.{Heap}
-use Rattle.mark_worklist.specs.Shares.{taken_of}
+use Rattle.mark_worklist.specs.Shares.{taken_by_share}
 use Rattle.marker_crew.specs.Crews.{Marker, HasDrained}
 use Rattle.marker_crew.proofs.runners.run.Goals as goal
 
@@ -21,6 +21,6 @@ returns g c =
       done = c.drain-drained.ensures.done;
       more = λ told. elim (c.drain-drained.ensures.more told) [
         | inl halted ↦ inl halted
-        | inr all ↦ inr (all ∙ ap (λ n. length (taken_of c.begun.inside.share) + n) count)
+        | inr all ↦ inr (all ∙ ap (λ n. length (taken_by_share c.begun.inside.share) + n) count)
       ];
     })

@@ -4,7 +4,7 @@ use Rattle.std.proofs.lemmas.List.Elements.{All-set}
 use Rattle.mark_worklist.specs.Hands.{HasLeft}
 use Rattle.mark_worklist.specs.Shares.{ShareState, last_count}
 use Rattle.mark_worklist.specs.Families.{at, nobody}
-use Rattle.mark_worklist.specs.Joining.{put_by, AreJoined, KnowLeft, LoseNothing, IsAllCounted, IsTaken}
+use Rattle.mark_worklist.specs.Joining.{put_by, EndsAreJoined, KnowLeft, LoseNothing, IsAllCounted, IsTakenOrLeft}
 use Rattle.mark_worklist.proofs.Items.{same-items}
 use Rattle.mark_worklist.proofs.Wholes.{as-many-put, all-taken, settled, settled-even, still-joined, still-taken}
 use Rattle.mark_worklist.proofs.lists.SharedList.finish.Goals as goal
@@ -13,7 +13,7 @@ use Rattle.mark_worklist.proofs.lists.SharedList.finish.Goals.{After-self-1}
 -- what is known of the shares once they are joined and counted
 record Facts (all now : List ShareState) (s : ShareState) (left pushed refused : ℕ) : Type 0 where
   lose : LoseNothing all now
-  joined : AreJoined now
+  joined : EndsAreJoined now
   some : 0 < length now
   is : s ≡ record (at now 0) { refused = refused; pop_found_none = false; steal_found_none = false }
   counted : (items : List ℕ) × (length items ≡ left) × IsAllCounted now items
@@ -31,7 +31,7 @@ facts c =
     let left = c.count_left-left.ensures.left in
     record {
       lose = lose;
-      joined = subst AreJoined same c.join_all.ensures.joined;
+      joined = subst EndsAreJoined same c.join_all.ensures.joined;
       some = some;
       is = c.settle.ensures
           ∙ ap (λ (t : ShareState). record t { refused = c.count_refused-refused.result; pop_found_none = false; steal_found_none = false }) (c.index_mut.ensures.value ∙ get_or_default now 0 c.index_mut.result.now nobody some);
@@ -39,7 +39,7 @@ facts c =
       all_put = c.count_pushed-pushed.ensures ∙ as-many-put all now lose;
     }
 
-taken : (c : After-self-1) → IsTaken (c.args.self.now ++ c.args.shares.items) (facts c).counted.0
+taken : (c : After-self-1) → IsTakenOrLeft (c.args.self.now ++ c.args.shares.items) (facts c).counted.0
 taken c = let f = facts c in all-taken _ _ f.lose f.counted.0 f.counted.2
 
 pub overflow_sub-result : goal.overflow_sub-result
