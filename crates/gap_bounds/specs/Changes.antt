@@ -7,7 +7,7 @@ use Rattle.gap_bounds.specs.Bounds.{group_blocks}
 use Rattle.gap_bounds.specs.Gaps.{GapTable, IsGap, HasClass, least_of, is_known, is_between}
 
 -- the tables are of the same heap: as many blocks, and as many pages
-pub record IsSameHeap (old new : GapTable) : Type 0 where
+pub record AreOfOneHeap (old new : GapTable) : Type 0 where
   pub blocks : length new.bounds ≡ length old.bounds
   pub pages : length new.most ≡ length old.most
 

@@ -7,7 +7,7 @@ ghost use Rattle.gc_graph.specs.Placement.{Extent};
 ghost use Rattle.page_words.specs.Seat.{block_words};
 ghost use Rattle.gap_bounds.specs.Bounds.{group_blocks};
 ghost use Rattle.gap_bounds.specs.Gaps.{class_count, bound_at, is_known, KnowsGaps};
-ghost use Rattle.gap_bounds.specs.Changes.{IsSameHeap, HasGroups, AreBounded, HadClasses};
+ghost use Rattle.gap_bounds.specs.Changes.{AreOfOneHeap, HasGroups, AreBounded, HadClasses};
 ghost use Rattle.gap_bounds.specs.Changes.{GapsOpened, GapsOpenedIn, GapsTaken, MayBegin};
 
 use crate::bounds::{Bounds, GROUP_BLOCKS};
@@ -112,7 +112,7 @@ impl Gaps {
     pub fn learn(&mut self, page: u32, groups: u32)
         requires page { page < length self.old.most }
         requires groups { group_blocks * ((page + 1) * groups) ≤ length self.old.bounds }
-        ensures heap { IsSameHeap self.old self.new }
+        ensures heap { AreOfOneHeap self.old self.new }
         ensures known { is_known self.new page ≡ true }
         ensures knows { (shape : Shape) (extents : List Extent) → HasGroups shape groups
             → shape.page_words ≤ 16384 → KnowsGaps shape extents self.old
@@ -129,7 +129,7 @@ impl Gaps {
     pub fn saw(&mut self, first: u32, end: u32, longest: u32)
         requires order { first ≤ end }
         requires end { end ≤ length self.old.bounds }
-        ensures heap { IsSameHeap self.old self.new }
+        ensures heap { AreOfOneHeap self.old self.new }
         ensures known { self.new.known ≡ self.old.known }
         ensures knows { (shape : Shape) (extents : List Extent)
             → AreBounded shape extents first end longest → KnowsGaps shape extents self.old
@@ -142,7 +142,7 @@ impl Gaps {
     pub fn tighten(&mut self, page: u32, groups: u32)
         requires page { page < length self.old.most }
         requires groups { group_blocks * ((page + 1) * groups) ≤ length self.old.bounds }
-        ensures heap { IsSameHeap self.old self.new }
+        ensures heap { AreOfOneHeap self.old self.new }
         ensures known { self.new.known ≡ self.old.known }
         ensures knows { (shape : Shape) (extents : List Extent)
             → HasGroups shape groups → KnowsGaps shape extents self.old
@@ -156,7 +156,7 @@ impl Gaps {
         requires page { page < length self.old.most }
         requires order { from < until }
         requires end { until ≤ block_words * length self.old.bounds }
-        ensures heap { IsSameHeap self.old self.new }
+        ensures heap { AreOfOneHeap self.old self.new }
         ensures knows { (shape : Shape) (before after : List Extent)
             → GapsOpened shape before after page from until → HadClasses shape before after
             → KnowsGaps shape before self.old → KnowsGaps shape after self.new }
@@ -174,7 +174,7 @@ impl Gaps {
         requires order { first ≤ end }
         requires end { end ≤ length self.old.most }
         requires words { end * page_words < 2 ^ 32 }
-        ensures heap { IsSameHeap self.old self.new }
+        ensures heap { AreOfOneHeap self.old self.new }
         ensures knows { (shape : Shape) (before after : List Extent)
             → shape.page_words ≡ page_words → GapsOpenedIn shape before after first end
             → HadClasses shape before after
@@ -206,7 +206,7 @@ impl Gaps {
     /// An object came to a page that begins at an address. Where that held no object before, a search
     /// of each class looks there again.
     pub fn fill(&mut self, start: u32, was_empty: bool)
-        ensures heap { IsSameHeap self.old self.new }
+        ensures heap { AreOfOneHeap self.old self.new }
         ensures knows { (shape : Shape) (before after : List Extent)
             → GapsTaken shape before after start was_empty → KnowsGaps shape before self.old
             → KnowsGaps shape after self.new }
@@ -237,7 +237,7 @@ impl Gaps {
     /// Searches of the class begin at an address of the page, or at its end, from now on.
     pub fn begin_at(&mut self, class: u32, a: u32)
         requires { class < class_count }
-        ensures heap { IsSameHeap self.old self.new }
+        ensures heap { AreOfOneHeap self.old self.new }
         ensures knows { (shape : Shape) (extents : List Extent) (page : ℕ)
             → MayBegin shape extents self.old class page a → KnowsGaps shape extents self.old
             → KnowsGaps shape extents self.new }

@@ -9,7 +9,7 @@ use Rattle.gc_graph.specs.Pause.{judged}
 use Rattle.gc_graph.specs.Placement.{Extent}
 use Rattle.marker_core.specs.declared.states.Body.{Body}
 use Rattle.page_words.specs.Seat.{SeatView, IsView}
-use Rattle.page_space.specs.Space.{extent_of, extents_of_bodies}
+use Rattle.page_space.specs.Space.{body_extent, extents_of_bodies}
 use Rattle.atomic_pause.specs.Nodes.{place_of, body_of, bodies_of, IsThere}
 use Rattle.atomic_pause.specs.Judgement.{nodes_after}
 use Rattle.atomic_pause.specs.NodeLives.{life-condemn, still_there}
@@ -23,9 +23,9 @@ size_kept : (old new : List Node) (v w : SeatView) (n : ℕ) → IsView v → v.
     → size_of (node_at new n) ≡ size_of (node_at old n)
 size_kept old new v w n view held held_after same there there_after place =
     let b : Body = body_of (place_of new) n (node_at new n) in
-    let listed : Contains (extents_of_bodies v.bodies) (extent_of b) =
-    subst (λ es. Contains es (extent_of b)) same (Contains-map extent_of w.bodies b (node_body new w n held_after there_after)) in
-    let from = Contains-map_some extent_of v.bodies (extent_of b) listed in
+    let listed : Contains (extents_of_bodies v.bodies) (body_extent b) =
+    subst (λ es. Contains es (body_extent b)) same (Contains-map body_extent w.bodies b (node_body new w n held_after there_after)) in
+    let from = Contains-map_some body_extent v.bodies (body_extent b) listed in
     let node = body_node old v from.0 held from.1 in
     let at : place_of old node.0 ≡ place_of old n = sym (ap (λ (c : Body). c.place) node.3) ∙ ap (λ (e : Extent). e.place) from.2 ∙ place in
     let one : node.0 ≡ n = same_node old v node.0 n view held node.2 there at in

@@ -16,7 +16,7 @@ use Rattle.marker_core.specs.declared.states.Body.{Body}
 use Rattle.marker_core.specs.Matching.{IsWhole}
 use Rattle.page_words.specs.BodyPlaces.{whole_body}
 use Rattle.page_words.specs.Roles.{kind_lists}
-use Rattle.page_words.specs.Seat.{SeatView, IsWordAt, IsView}
+use Rattle.page_words.specs.Seat.{SeatView, TellsWordAt, IsView}
 use Rattle.member_fields.specs.Words.{IsWordIn}
 use Rattle.heap_objects.specs.declared.field.Field.{Field}
 use Rattle.heap_objects.specs.declared.field.Wanted.{Wanted}
@@ -168,7 +168,7 @@ reference_fits nodes v x w view held read = elim (cases_eq w 0) [
   | inr other ↦ (let named = reads_node nodes v x w held read other in omega (arith, head_address nodes v x w named.0 view named.1, view.count))
 ]
 
-pub head_number : (nodes : List Node) (v : SeatView) (x : Value) (w m a number : ℕ) → NamesNode nodes v x w m → a ≡ w → IsWordAt v a number → number ≡ m
+pub head_number : (nodes : List Node) (v : SeatView) (x : Value) (w m a number : ℕ) → NamesNode nodes v x w m → a ≡ w → TellsWordAt v a number → number ≡ m
 head_number nodes v x w m a number read at word = word.serial (body_of (place_of nodes) m (node_at nodes m)) read.body (sym (at ∙ read.word))
 
 pub number_fits : (nodes : List Node) (m : ℕ) → length nodes ≤ 1000000 → IsLive nodes m → m < 2 ^ 32

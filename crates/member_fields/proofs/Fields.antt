@@ -10,7 +10,7 @@ use Rattle.marker_core.specs.declared.states.Role.{Role}
 use Rattle.marker_core.specs.declared.states.Role.TheVariants.{KeyWord, ValueWord}
 use Rattle.marker_core.specs.Bodies.{IsReference, fields_at, end_of, role_at, role_in, refers, word_in}
 use Rattle.marker_core.specs.SeatSteps.{seat_can_store, key_fits}
-use Rattle.page_words.specs.Bodies.{IsPlainWord, is_reference_word}
+use Rattle.page_words.specs.Bodies.{IsPlainWordAt, is_reference_word}
 use Rattle.page_words.specs.Roles.{kind_lists, kinds_fit, kind_of_role, refers_by_kind}
 use Rattle.page_words.specs.Seat.{SeatView, IsView, side}
 use Rattle.member_fields.specs.Words.{HasLoneWord, HasPair}
@@ -21,7 +21,7 @@ use Rattle.member_fields.proofs.Allowed.{store_allowed, no_key_fits, some_key_fi
 use Rattle.member_fields.proofs.PairWords.{told_value}
 
 pub lone_allowed : (v : SeatView) (holder word w : ℕ) → IsView v → IsReadyToStore v → HasLoneWord v holder word → MayKeep v holder
-    → IsPlainWord v.types v.bodies (holder + word) ⊎ (IsReference v.bodies w × MayKeepNamed v w) → seat_can_store (side v) (holder + word) w ≡ true
+    → IsPlainWordAt v.types v.bodies (holder + word) ⊎ (IsReference v.bodies w × MayKeepNamed v w) → seat_can_store (side v) (holder + word) w ≡ true
 lone_allowed v holder word w is ready (is_so, apart, has) own fits =
     let b : Body = has.body in
     let a : ℕ = holder + word in

@@ -4,11 +4,11 @@ use Rattle.gc_graph.specs.declared.kind.Kind.{Kind}
 use Rattle.marker_core.specs.declared.states.Body.{Body}
 use Rattle.marker_core.specs.Bodies.{IsFieldWord, IsPlace}
 use Rattle.page_words.specs.Bodies.{kind_in}
-use Rattle.page_words.specs.Seat.{SeatView, IsWordAt, IsView}
+use Rattle.page_words.specs.Seat.{SeatView, TellsWordAt, IsView}
 use Rattle.member_fields.specs.Words.{HasWord, HasWordOfSomeKind, IsWordIn}
 use Rattle.page_words.specs.BodyPlaces.{whole_body, same_body, no_place_within}
 
-pub word_read : (v : SeatView) (holder word w : ℕ) → IsView v → HasWordOfSomeKind v holder word → IsWordAt v (holder + word) w → IsWordIn v holder word w
+pub word_read : (v : SeatView) (holder word w : ℕ) → IsView v → HasWordOfSomeKind v holder word → TellsWordAt v (holder + word) w → IsWordIn v holder word w
 word_read v holder word w is has at b there place =
     let same : has.1.body ≡ b = same_body v has.1.body b is has.1.there there (has.1.place ∙ sym place) in
     let size : has.1.body.size ≡ b.size = ap (λ (c : Body). c.size) same in

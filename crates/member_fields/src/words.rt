@@ -4,7 +4,7 @@ ghost use Rattle.std.specs.Prelude.{◌≡◌, ◌⊎◌, ℕ, ◌+◌, ◌≤�
 ghost use Rattle.gc_graph.specs.declared.kind.Kind.{Kind};
 ghost use Rattle.object_headers.specs.Offsets.{first_field};
 ghost use Rattle.marker_core.specs.Bodies.{IsReference};
-ghost use Rattle.page_words.specs.Bodies.{IsPlainWord};
+ghost use Rattle.page_words.specs.Bodies.{IsPlainWordAt};
 ghost use Rattle.page_words.specs.Seat.{stored, rewritten};
 ghost use Rattle.member_fields.specs.Words.{HasWord, HasWordOfSomeKind, HasLoneWord, HasPair};
 ghost use Rattle.member_fields.specs.Words.{IsWordIn, written};
@@ -58,7 +58,7 @@ pub fn write<B: Bodywords>(space: &B, seat: &mut MutatorSeat, holder: u32, word:
     requires ready { IsReadyToStore seat.old }
     requires field { HasLoneWord seat.old holder word }
     requires holder { MayKeep seat.old holder }
-    requires word { IsPlainWord seat.old.types seat.old.bodies (holder + word)
+    requires word { IsPlainWordAt seat.old.types seat.old.bodies (holder + word)
         ⊎ (IsReference seat.old.bodies w × MayKeepNamed seat.old w) }
     ensures view { seat.new ≡ stored seat.old (holder + word) w }
     ensures address { written seat.old holder word w ≡ rewritten seat.old (holder + word) w }

@@ -6,7 +6,7 @@ use Rattle.std.proofs.lemmas.List.Elements.{All-head, All-tail, All-contains, Al
 use Rattle.std.proofs.lemmas.List.Sums.{sum_by-cons}
 use Rattle.gc_graph.specs.Placement.{Extent, HasWord, IsTaken}
 use Rattle.page_space.specs.Pages.{covers}
-use Rattle.page_space.specs.Space.{PlacesDiffer}
+use Rattle.page_space.specs.Space.{ExtentPlacesDiffer}
 use Rattle.gc_graph.specs.Members.{Contains-cons, Contains-head, Contains-cons_cases, was_in, has_passed, stays_in}
 
 pub covers_from : (e : Extent) (x : ℕ) → HasWord e x → covers x e ≡ true
@@ -57,16 +57,16 @@ contains_filter es a d other h = stays_in (others a) es d h (ap not (ne_eqb d.pl
 pub from_filter : (es : List Extent) (a : ℕ) (d : Extent) → Contains (filter (others a) es) d → Contains es d × (d.place ≡ a → ⊥)
 from_filter es a d h = (was_in (others a) es d h, (λ same. true≢false (sym (has_passed (others a) es d h) ∙ ap not (eq-eqb d.place a same))))
 
-pub differ_filter : (t : Extent → Bool) (es : List Extent) → PlacesDiffer es → PlacesDiffer (filter t es)
+pub differ_filter : (t : Extent → Bool) (es : List Extent) → ExtentPlacesDiffer es → ExtentPlacesDiffer (filter t es)
 differ_filter t [] differ = tt
 differ_filter t (e ∷ es) differ =
     elim (cases_Bool (t e)) [
-      | inl stays ↦ subst PlacesDiffer (sym (ap (λ x. cond x (e ∷ filter t es) (filter t es)) stays))
+      | inl stays ↦ subst ExtentPlacesDiffer (sym (ap (λ x. cond x (e ∷ filter t es) (filter t es)) stays))
           (All-filter t (λ (d : Extent). d.place ≡ e.place → ⊥) es differ.0, differ_filter t es differ.1)
-      | inr goes ↦ subst PlacesDiffer (sym (ap (λ x. cond x (e ∷ filter t es) (filter t es)) goes)) (differ_filter t es differ.1)
+      | inr goes ↦ subst ExtentPlacesDiffer (sym (ap (λ x. cond x (e ∷ filter t es) (filter t es)) goes)) (differ_filter t es differ.1)
     ]
 
-pub differ_push : (es : List Extent) (e : Extent) → PlacesDiffer es → ((d : Extent) → Contains es d → d.place ≡ e.place → ⊥) → PlacesDiffer (es ++ e ∷ [])
+pub differ_push : (es : List Extent) (e : Extent) → ExtentPlacesDiffer es → ((d : Extent) → Contains es d → d.place ≡ e.place → ⊥) → ExtentPlacesDiffer (es ++ e ∷ [])
 differ_push [] e differ other = (All-nil (λ (d : Extent). d.place ≡ e.place → ⊥), tt)
 differ_push (d ∷ es) e differ other = (
   All-push (λ (f : Extent). f.place ≡ d.place → ⊥) es e differ.0 (λ same. other d (Contains-head d es) (sym same)),
@@ -80,7 +80,7 @@ none_less (d ∷ es) a none =
     ∙ ap (λ ds. d ∷ ds) (none_less es a (All-tail (λ (e : Extent). e.place ≡ a → ⊥) d es none))
 
 -- what a sum loses with the extent at a place
-pub one_less : (f : Extent → ℕ) (es : List Extent) (e : Extent) (a : ℕ) → PlacesDiffer es → Contains es e → e.place ≡ a
+pub one_less : (f : Extent → ℕ) (es : List Extent) (e : Extent) (a : ℕ) → ExtentPlacesDiffer es → Contains es e → e.place ≡ a
     → sum_by f (filter (others a) es) + f e ≡ sum_by f es
 one_less f [] e a differ there at = absurd (omega (arith, there.1))
 one_less f (d ∷ es) e a differ there at =
@@ -111,5 +111,5 @@ ones : (es : List Extent) → sum_by (λ (e : Extent). 1) es ≡ length es
 ones [] = refl
 ones (e ∷ es) = omega (arith, sum_by-cons (λ (d : Extent). 1) e es, ones es)
 
-pub length_less : (es : List Extent) (e : Extent) (a : ℕ) → PlacesDiffer es → Contains es e → e.place ≡ a → length (filter (others a) es) + 1 ≡ length es
+pub length_less : (es : List Extent) (e : Extent) (a : ℕ) → ExtentPlacesDiffer es → Contains es e → e.place ≡ a → length (filter (others a) es) + 1 ≡ length es
 length_less es e a differ there at = omega (arith, one_less (λ (d : Extent). 1) es e a differ there at, ones es, ones (filter (others a) es))

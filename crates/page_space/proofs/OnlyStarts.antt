@@ -10,7 +10,7 @@ use Rattle.gap_bounds.specs.Bodies.{IsPlace, end_of}
 use Rattle.gap_bounds.specs.Body.{Body}
 use Rattle.gap_bounds.specs.Seat.{SeatView, IsView}
 use Rattle.page_space.specs.Pages.{is_in_page}
-use Rattle.page_space.specs.Space.{SpaceView, IsSpaceOver, HoldsAddress, HasNoStart, IsLastStart, extent_of, extents_of_bodies}
+use Rattle.page_space.specs.Space.{SpaceView, IsSpaceOver, HoldsAddress, HasNoStart, IsLastStart, body_extent, extents_of_bodies}
 use Rattle.page_space.proofs.PageSpan.{page_of, page_is, in_page_from}
 use Rattle.gap_bounds.specs.Spans.{between_parts}
 use Rattle.gc_graph.specs.PageNumbers.{next_page, same_page, small_bucket, large_bucket}
@@ -22,11 +22,11 @@ use Rattle.page_space.proofs.UsedPages.{some_counted, counted_some}
 -- ---- by the page table
 
 -- a body that has a word is in the word's page
-holder_in_page : (w : ℕ) (bodies : List Body) (x a : ℕ) → 0 < w → (h : HoldsAddress bodies x a) → is_in_page w (x / w) (extent_of h.0) ≡ true
+holder_in_page : (w : ℕ) (bodies : List Body) (x a : ℕ) → 0 < w → (h : HoldsAddress bodies x a) → is_in_page w (x / w) (body_extent h.0) ≡ true
 holder_in_page w bodies x a words h =
     let own : (x / w * w ≤ x) × (x < (x / w + 1) * w) = page_of w x words in
     let at : h.0.place ≡ a = h.2 in
-    in_page_from w (x / w) (extent_of h.0) x words (omega (arith, h.3), h.4) own.0 own.1
+    in_page_from w (x / w) (body_extent h.0) x words (omega (arith, h.3), h.4) own.0 own.1
 
 pub none_in_empty_page : (space : SpaceView) (count : ℕ) (bodies : List Body) (x a : ℕ) → 0 < space.shape.page_words
     → IsSpaceOver space count (extents_of_bodies bodies) → x / space.shape.page_words < space.shape.pages
@@ -36,7 +36,7 @@ none_in_empty_page space count bodies x a words over within none h =
     omega (
       arith,
       over.held (x / w) within,
-      counted_some (is_in_page w (x / w)) (extents_of_bodies bodies) (extent_of h.0) (Contains-map extent_of bodies h.0 h.1) (holder_in_page w bodies x a words h),
+      counted_some (is_in_page w (x / w)) (extents_of_bodies bodies) (body_extent h.0) (Contains-map body_extent bodies h.0 h.1) (holder_in_page w bodies x a words h),
     )
 
 -- an object starts there, by the first word of the page, and no other one has a word in the page
@@ -61,16 +61,16 @@ large_start space count bodies page words over within some is_large =
     let first : e.place ≡ takes.page * w = takes.first in
     let own : e.place / w ≡ takes.page = page_is w takes.page e.place words (omega arith) (omega (arith, next_page w takes.page)) in
     let start : get_or space.table.starts page 0 * w ≡ e.place = ap (λ n. n * w) (over.starts page e one.1 one.2 ∙ own) ∙ sym first in
-    let b : (b : Body) × Contains bodies b × (extent_of b ≡ e) = body_of_extent bodies e one.1 in
+    let b : (b : Body) × Contains bodies b × (body_extent b ≡ e) = body_of_extent bodies e one.1 in
     let from : e.place / w ≤ page = (between_parts _ _ page one.2).0 in
     let low : takes.page * w ≤ page * w = mul-le-mul_right w (omega arith) in
     record {
       place = (b.0, b.1, ap (λ (d : Extent). d.place) b.2 ∙ sym start);
       low = omega arith;
       only = λ x a at h.
-          let there : Contains es (extent_of h.0) = Contains-map extent_of bodies h.0 h.1 in
-          let inside : is_in_page w page (extent_of h.0) ≡ true = subst (λ p. is_in_page w p (extent_of h.0) ≡ true) at (holder_in_page w bodies x a words h) in
-          let same : extent_of h.0 ≡ e = over.alone page (extent_of h.0) e there one.1 inside one.2 large in
+          let there : Contains es (body_extent h.0) = Contains-map body_extent bodies h.0 h.1 in
+          let inside : is_in_page w page (body_extent h.0) ≡ true = subst (λ p. is_in_page w p (body_extent h.0) ≡ true) at (holder_in_page w bodies x a words h) in
+          let same : body_extent h.0 ≡ e = over.alone page (body_extent h.0) e there one.1 inside one.2 large in
           start ∙ sym (ap (λ (d : Extent). d.place) same) ∙ h.2;
     }
 
@@ -80,18 +80,18 @@ pub small_start : (space : SpaceView) (count : ℕ) (bodies : List Body) (x a : 
     → x / space.shape.page_words * space.shape.page_words ≤ a
 small_start space count bodies x a words over not_large h =
     let w : ℕ = space.shape.page_words in
-    let there : Contains (extents_of_bodies bodies) (extent_of h.0) = Contains-map extent_of bodies h.0 h.1 in
+    let there : Contains (extents_of_bodies bodies) (body_extent h.0) = Contains-map body_extent bodies h.0 h.1 in
     let own : (x / w * w ≤ x) × (x < (x / w + 1) * w) = page_of w x words in
     let at : h.0.place ≡ a = h.2 in
     let to : x < end_of h.0 = h.4 in
-    elim (over.placed (extent_of h.0) there) [
+    elim (over.placed (body_extent h.0) there) [
       | inl lies ↦
           (let low : lies.1.page * w ≤ h.0.place = lies.1.first in
           let high : end_of h.0 ≤ (lies.1.page + 1) * w = lies.1.last in
           let same : lies.1.page ≡ x / w = same_page w lies.1.page (x / w) x (omega (arith, h.3)) (omega arith) own.0 own.1 in
           subst (λ p. p * w ≤ a) same (omega arith))
       | inr takes ↦
-          absurd (not_large (over.buckets (x / w) (extent_of h.0) there (holder_in_page w bodies x a words h) ∙ large_bucket w h.0.size takes.0))
+          absurd (not_large (over.buckets (x / w) (body_extent h.0) there (holder_in_page w bodies x a words h) ∙ large_bucket w h.0.size takes.0))
     ]
 
 -- ---- by the start bits

@@ -11,7 +11,7 @@ use Rattle.gap_bounds.specs.Seat.{SeatView, IsView}
 use Rattle.gap_bounds.specs.Gaps.{IsGap}
 use Rattle.gap_bounds.specs.Changes.{GapsOpened}
 use Rattle.page_space.specs.Pages.{word_count}
-use Rattle.page_space.specs.Space.{SpaceView, IsSpaceOf, extent_of, extents_of_bodies}
+use Rattle.page_space.specs.Space.{SpaceView, IsSpaceOf, body_extent, extents_of_bodies}
 use Rattle.page_space.specs.Opening.{IsEdgeBefore, IsEndAfter, without_place}
 use Rattle.page_space.proofs.PageSpan.{page_of, page_is, page_inside}
 use Rattle.gc_graph.specs.PageNumbers.{same_page}
@@ -26,7 +26,7 @@ use Rattle.page_space.proofs.Shapes.{shape_words}
 stays_taken : (bodies : List Body) (a x : ℕ) (b : Body) → Contains bodies b → (b.place ≡ a → ⊥) → b.place ≤ x → x < end_of b
     → IsTaken (without_place (extents_of_bodies bodies) a) x
 stays_taken bodies a x b there other low high =
-    (extent_of b, contains_filter (extents_of_bodies bodies) a (extent_of b) other (Contains-map extent_of bodies b there), (low, high))
+    (body_extent b, contains_filter (extents_of_bodies bodies) a (body_extent b) other (Contains-map body_extent bodies b there), (low, high))
 
 -- a gap that meets the object's words begins no lower than the edge before
 begins_after : (v : SeatView) (shape : Shape) (page a edge size x : ℕ) → IsView v → IsEdgeBefore shape v.bodies page a edge
@@ -82,7 +82,7 @@ seated space v a size valid view over there =
     let w : ℕ = space.shape.page_words in
     let e : Extent = record { place = a; size = size } in
     let words : 0 < w = omega (arith, (shape_words space.shape valid).0) in
-    let found : (b : Body) × Contains v.bodies b × (extent_of b ≡ e) = body_of_extent v.bodies e there in
+    let found : (b : Body) × Contains v.bodies b × (body_extent b ≡ e) = body_of_extent v.bodies e there in
     let at : found.0.place ≡ a = ap (λ (d : Extent). d.place) found.2 in
     let size_is : found.0.size ≡ size = ap (λ (d : Extent). d.size) found.2 in
     let least : 2 ≤ size = over.sizes e there in

@@ -8,17 +8,17 @@ use Rattle.object_headers.specs.declared.header.Header.{Header}
 use Rattle.gap_bounds.specs.Bodies.{IsInBody}
 use Rattle.gap_bounds.specs.Body.{Body}
 use Rattle.gap_bounds.specs.Seat.{SeatView}
-use Rattle.page_space.specs.Space.{extent_of, extents_of_bodies, IsHeaderOf}
+use Rattle.page_space.specs.Space.{body_extent, extents_of_bodies, IsHeaderOf}
 
 pub taken_by_body : (bodies : List Body) (a : ℕ) → IsInBody bodies a → IsTaken (extents_of_bodies bodies) a
-taken_by_body bodies a h = (extent_of h.0, Contains-map extent_of bodies h.0 h.1, (h.2, h.3))
+taken_by_body bodies a h = (body_extent h.0, Contains-map body_extent bodies h.0 h.1, (h.2, h.3))
 
-pub body_of_extent : (bodies : List Body) (e : Extent) → Contains (extents_of_bodies bodies) e → (b : Body) × Contains bodies b × (extent_of b ≡ e)
-body_of_extent bodies e h = Contains-map_some extent_of bodies e h
+pub body_of_extent : (bodies : List Body) (e : Extent) → Contains (extents_of_bodies bodies) e → (b : Body) × Contains bodies b × (body_extent b ≡ e)
+body_of_extent bodies e h = Contains-map_some body_extent bodies e h
 
 pub body_of_taken : (bodies : List Body) (a : ℕ) → IsTaken (extents_of_bodies bodies) a → IsInBody bodies a
 body_of_taken bodies a h =
-    let found : (b : Body) × Contains bodies b × (extent_of b ≡ h.0) = body_of_extent bodies h.0 h.1 in
+    let found : (b : Body) × Contains bodies b × (body_extent b ≡ h.0) = body_of_extent bodies h.0 h.1 in
     let place : found.0.place ≡ h.0.place = ap (λ e. e.place) found.2 in
     let size : found.0.size ≡ h.0.size = ap (λ e. e.size) found.2 in
     let first : h.0.place ≤ a = h.2.0 in

@@ -8,7 +8,7 @@ use Rattle.gc_graph.specs.Placement.{Extent, PageHasBucket, IsLowest, IsNowhere,
 use Rattle.gap_bounds.specs.Bodies.{end_of}
 use Rattle.gap_bounds.specs.Body.{Body}
 use Rattle.page_space.specs.Pages.{is_in_page}
-use Rattle.page_space.specs.Space.{SpaceView, IsSpaceOver, FitsIn, FitsBetween, HoldsWhole, extent_of, extents_of_bodies}
+use Rattle.page_space.specs.Space.{SpaceView, IsSpaceOver, FitsIn, FitsBetween, HoldsWhole, body_extent, extents_of_bodies}
 use Rattle.gap_bounds.specs.Gaps.{IsGap, IsClassOf, least_of}
 use Rattle.page_space.proofs.PageSpan.{in_page_from}
 use Rattle.gc_graph.specs.PageNumbers.{page_before, same_page, small_bucket, large_bucket}
@@ -54,8 +54,8 @@ pub page_holds_whole : (space : SpaceView) (count : ℕ) (bodies : List Body) (s
     → PageHasBucket space.shape.page_words (extents_of_bodies bodies) page (bucket_of space.shape.page_words size) → HoldsWhole space.shape bodies page
 page_holds_whole space count bodies size page some over small has b a there from to first last =
     let w : ℕ = space.shape.page_words in
-    let e : Extent = extent_of b in
-    let e_there : Contains (extents_of_bodies bodies) e = Contains-map extent_of bodies b there in
+    let e : Extent = body_extent b in
+    let e_there : Contains (extents_of_bodies bodies) e = Contains-map body_extent bodies b there in
     let e_in : is_in_page w page e ≡ true = in_page_from w page e a some (from, to) first last in
     let d_in : is_in_page w page has.0 ≡ true = in_page_from w page has.0 has.1 some has.3 has.4 has.5 in
     let same : bucket_of w e.size ≡ bucket_of w size = over.shared page e has.0 e_there has.2 e_in d_in ∙ has.6 in

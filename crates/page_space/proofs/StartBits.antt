@@ -8,7 +8,7 @@ use Rattle.std.proofs.lemmas.Nat.Bits.{bit_at-zero, bit_at_above, bit_at-trailin
 use Rattle.std.proofs.Math.Nat.{pow-succ', pow-le-pow_right}
 use Rattle.gap_bounds.specs.Bodies.{IsPlace}
 use Rattle.gap_bounds.specs.Layout.{bitmap_at}
-use Rattle.gap_bounds.specs.Seat.{SeatView, IsWordAt}
+use Rattle.gap_bounds.specs.Seat.{SeatView, TellsWordAt}
 use Rattle.page_space.specs.Space.{HasNoStart, IsLastStart}
 
 -- the bit of the word at the address that is i words on, in the word shifted down to the address
@@ -19,7 +19,7 @@ shifted w at i inside =
 
 -- the word of start bits that an address has its bit in
 abbrev pub IsBitsAt : SeatView → ℕ → ℕ → Type 0
-IsBitsAt v at w = IsWordAt v (v.count + at / 64) w
+IsBitsAt v at w = TellsWordAt v (v.count + at / 64) w
 
 -- a place has its bit set
 set_bit : (v : SeatView) (w at i : ℕ) → IsBitsAt v at w → at + i < v.count → at % 64 + i < 64 → IsPlace v.bodies (at + i)
@@ -87,7 +87,7 @@ pub record IsLastPlace (v : SeatView) (word last : ℕ) : Type 0 where
   pub low : 64 * word ≤ last
   pub high : last < 64 * word + 64
 
-pub highest_bit : (v : SeatView) (w word top : ℕ) → IsWordAt v (v.count + word) w → 64 * word + 64 ≤ v.count → 2 ^ top ≤ w → w < 2 * 2 ^ top → top < 64
+pub highest_bit : (v : SeatView) (w word top : ℕ) → TellsWordAt v (v.count + word) w → 64 * word + 64 ≤ v.count → 2 ^ top ≤ w → w < 2 * 2 ^ top → top < 64
     → IsLastPlace v word (64 * word + top)
 highest_bit v w word top at inside low high few =
     let one : bit_at w top ≡ 1 = top_bit w top low high in

@@ -31,17 +31,17 @@ abbrev pub IsSeatOf : SpaceView → SeatView → Type 0
 IsSeatOf space v = v.heap ≡ heap_of space
 
 -- the words of a body
-abbrev pub extent_of : Body → Extent
-extent_of b = record { place = b.place; size = b.size }
+abbrev pub body_extent : Body → Extent
+body_extent b = record { place = b.place; size = b.size }
 
 -- the words of each body
 abbrev pub extents_of_bodies : List Body → List Extent
-extents_of_bodies bodies = map extent_of bodies
+extents_of_bodies bodies = map body_extent bodies
 
 -- each object has a place of its own
-abbrev pub PlacesDiffer : List Extent → Type 0
-PlacesDiffer [] = ⊤
-PlacesDiffer (e ∷ extents) = All (λ d. d.place ≡ e.place → ⊥) extents × PlacesDiffer extents
+abbrev pub ExtentPlacesDiffer : List Extent → Type 0
+ExtentPlacesDiffer [] = ⊤
+ExtentPlacesDiffer (e ∷ extents) = All (λ d. d.place ≡ e.place → ⊥) extents × ExtentPlacesDiffer extents
 
 -- an object of at most half a page lies in one page; a larger one starts a page and takes no more pages than it needs
 abbrev pub IsPlacedWell : Shape → Extent → Type 0
@@ -52,7 +52,7 @@ IsPlacedWell shape e =
 -- the space belongs to words with these objects
 pub record IsSpaceOver (space : SpaceView) (count : ℕ) (extents : List Extent) : Type 0 where
   pub seat : count ≡ word_count space.shape
-  pub differ : PlacesDiffer extents
+  pub differ : ExtentPlacesDiffer extents
   -- a header and a serial number
   pub sizes : (e : Extent) → Contains extents e → 2 ≤ e.size
   pub placed : (e : Extent) → Contains extents e → IsPlacedWell space.shape e

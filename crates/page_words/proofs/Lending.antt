@@ -20,13 +20,13 @@ use Rattle.marker_core.specs.Seats.{core_of}
 use Rattle.marker_core.specs.Views.{fresh_view, spent_view, view_at}
 use Rattle.page_words.specs.Heaps.{IsCount, AreWords}
 use Rattle.page_words.specs.MarkerRule.{out_view, IsMarker, lender_view, lent_view, given_view, impossible_view, taken_back, taker_view, LooksAgain}
-use Rattle.page_words.specs.Rule.{View, side_of, turned_to, owner_view, marker_view, IsCore, IsOwner}
+use Rattle.page_words.specs.Rule.{RuleView, side_of, turned_to, owner_view, marker_view, IsCore, IsOwner}
 use Rattle.page_words.proofs.Owning.{Owned, owned}
 use Rattle.page_words.proofs.MarkerSeats.{marker_at, later_set}
 
 -- ---- a seat is lent
 
-module _ (keep : StepsKeep) (law : SplitsAreSteps) (me : Me (Unit {0}) View) (mine : IsOwner me) (on : me.0.mutator.on ≡ true) where
+module _ (keep : StepsKeep) (law : SplitsAreSteps) (me : Me (Unit {0}) RuleView) (mine : IsOwner me) (on : me.0.mutator.on ≡ true) where
   lent_ok : (words : List ℕ) (markers : List MarkerView) → IsCoreOk (core_of (side_of me.0) words markers)
       → IsCoreOk (core_of (side_of (lender_view me.0)) words (markers ++ fresh_view ∷ []))
   lent_ok words markers ok =
@@ -34,18 +34,18 @@ module _ (keep : StepsKeep) (law : SplitsAreSteps) (me : Me (Unit {0}) View) (mi
       (law (side_of me.0) words markers on)
 
   lender_owns : lender_view me.0 ≡ owner_view (lender_view me.0)
-  lender_owns = ap (λ (v : View). turned_to v (seat_lent (side_of me.0))) mine.owns
+  lender_owns = ap (λ (v : RuleView). turned_to v (seat_lent (side_of me.0))) mine.owns
 
   pub lends : (id : ℕ) → Splits IsCore id me.0 (lender_view me.0) (lent_view me.0)
   lends id s is here =
       let o : Owned s id me.0 = owned s is id me.0 here mine.owns in
-      let f : MarkerView → View = marker_view me.0 in (
+      let f : MarkerView → RuleView = marker_view me.0 in (
         lender_view me.0,
         o.markers ++ fresh_view ∷ [],
-        ap (λ (xs : List View). set xs id (lender_view me.0) ++ lent_view me.0 ∷ []) o.views
+        ap (λ (xs : List RuleView). set xs id (lender_view me.0) ++ lent_view me.0 ∷ []) o.views
             ∙ ap (λ k. set (me.0 ∷ map f o.markers) k (lender_view me.0) ++ lent_view me.0 ∷ []) o.first
-            ∙ ap (λ (xs : List View). lender_view me.0 ∷ xs) (sym (map-append f o.markers (fresh_view ∷ [])))
-            ∙ ap (λ (x : View). x ∷ map f (o.markers ++ fresh_view ∷ [])) lender_owns,
+            ∙ ap (λ (xs : List RuleView). lender_view me.0 ∷ xs) (sym (map-append f o.markers (fresh_view ∷ [])))
+            ∙ ap (λ (x : RuleView). x ∷ map f (o.markers ++ fresh_view ∷ [])) lender_owns,
         lent_ok s.words o.markers o.ok,
       )
 
@@ -82,29 +82,29 @@ module _ (keep : StepsKeep) (law : SplitsAreSteps) (me : Me (Unit {0}) View) (mi
 -- ---- a seat is given back
 
 -- where marking goes on and a seat is lent, what was known becomes the mutator's
-taken : (v : View) (given : MarkerView) → v.mutator.on ≡ true → 0 < v.mutator.lent → taken_back v given ≡ seat_joined (side_of v) given
+taken : (v : RuleView) (given : MarkerView) → v.mutator.on ≡ true → 0 < v.mutator.lent → taken_back v given ≡ seat_joined (side_of v) given
 taken v given on more =
     cond-true (v.mutator.on && not (eqb v.mutator.lent 0)) (seat_joined (side_of v) given) impossible_view
     (and_from v.mutator.on (not (eqb v.mutator.lent 0)) on (ap not (ne_eqb v.mutator.lent 0 (λ none. omega (arith, none, more)))))
 
 -- a seat that is not the first is a marker's, whatever the first one's view is now
-later_of : (v both : View) (markers : List MarkerView) (id : ℕ) (w : View) → get_elem? (both ∷ map (marker_view v) markers) id ≡ some w
+later_of : (v both : RuleView) (markers : List MarkerView) (id : ℕ) (w : RuleView) → get_elem? (both ∷ map (marker_view v) markers) id ≡ some w
     → (id ≡ 0 → ⊥) → (k : ℕ) × (id ≡ suc k) × (marker_view v (view_at markers k) ≡ w)
 later_of v both markers zero w e apart = absurd (apart refl)
 later_of v both markers (suc k) w e apart = (k, refl, marker_at v markers k w e)
 
-pub takes_back : StepsKeep → JoinsAreSteps → LentWhileOn → (v w : View) (id other : ℕ) → v ≡ owner_view v → w ≡ out_view w → w.marker.spent ≡ false
+pub takes_back : StepsKeep → JoinsAreSteps → LentWhileOn → (v w : RuleView) (id other : ℕ) → v ≡ owner_view v → w ≡ out_view w → w.marker.spent ≡ false
     → w.marker.hand ≡ None → Joins IsCore id v other w (taker_view v w) given_view
 takes_back keep law lending v w id other owns out lives none s is here apart there =
     let o : Owned s id v = owned s is id v here owns in
-    let f : MarkerView → View = marker_view v in
-    let both : View = taker_view v w in
+    let f : MarkerView → RuleView = marker_view v in
+    let both : RuleView = taker_view v w in
     let first : set s.views id both ≡ both ∷ map f o.markers =
-    ap (λ (xs : List View). set xs id both) o.views ∙ ap (λ k. set (v ∷ map f o.markers) k both) o.first in
-    let at = later_of v both o.markers other w (subst (λ (vs : List View). get_elem? vs other ≡ some w) first there) (λ zeroth. apart (zeroth ∙ sym o.first)) in
+    ap (λ (xs : List RuleView). set xs id both) o.views ∙ ap (λ k. set (v ∷ map f o.markers) k both) o.first in
+    let at = later_of v both o.markers other w (subst (λ (vs : List RuleView). get_elem? vs other ≡ some w) first there) (λ zeroth. apart (zeroth ∙ sym o.first)) in
     let k : ℕ = at.0 in
     let m : MarkerView = view_at o.markers k in
-    let same : m ≡ w.marker = ap (λ (x : View). x.marker) at.2 in
+    let same : m ≡ w.marker = ap (λ (x : RuleView). x.marker) at.2 in
     let lives_there : m.spent ≡ false = ap (λ (x : MarkerView). x.spent) same ∙ lives in
     let none_there : m.hand ≡ None = ap (λ (x : MarkerView). x.hand) same ∙ none in
     let lends = lending (side_of v) s.words o.markers k o.ok lives_there in
@@ -117,14 +117,14 @@ takes_back keep law lending v w id other owns out lives none s is here apart the
       both,
       markers,
       later_set (set s.views id both) other k f both given_view spent_view o.markers first at.1 refl
-          ∙ ap (λ (x : View). turned_to x (taken_back v w.marker) ∷ map f markers) owns,
+          ∙ ap (λ (x : RuleView). turned_to x (taken_back v w.marker) ∷ map f markers) owns,
       subst (λ (j : MutatorView). IsCoreOk (core_of (side_of (turned_to v j)) s.words markers)) turn kept,
     )
 
 -- ---- the mutator's seat looks again
 
 -- where no marking goes on the view says that a seat is lent, which is in no state
-pub tells_on : (v : View) (given : MarkerView) → (taken_back v given).on ≡ false → (taken_back v given).lent ≡ 1
+pub tells_on : (v : RuleView) (given : MarkerView) → (taken_back v given).on ≡ false → (taken_back v given).lent ≡ 1
 tells_on v given off =
     let test : Bool = v.mutator.on && not (eqb v.mutator.lent 0) in
     elim (cases_Bool test) [
@@ -136,13 +136,13 @@ tells_on v given off =
     ]
 
 -- what a look leaves
-same_state : (s : State (Unit {0}) View) (id at : ℕ) (v : View) → get_elem? s.views id ≡ some v
+same_state : (s : State (Unit {0}) RuleView) (id at : ℕ) (v : RuleView) → get_elem? s.views id ≡ some v
     → s ≡ record { words = set s.words at (get_or s.words at 0); homes = s.homes; views = set s.views id v }
 same_state s id at v here =
     ap (λ ws. record { words = ws; homes = s.homes; views = s.views }) (sym (set-get_or s.words at 0))
     ∙ ap (λ vs. record { words = set s.words at (get_or s.words at 0); homes = s.homes; views = vs }) (sym (set_again s.views id v here))
 
-pub looks_again : ViewsAreOk → (me : Me (Unit {0}) View) (slots id at : ℕ) → me.1 ≡ [] → IsCount me.0.count → me.0 ≡ owner_view me.0
+pub looks_again : ViewsAreOk → (me : Me (Unit {0}) RuleView) (slots id at : ℕ) → me.1 ≡ [] → IsCount me.0.count → me.0 ≡ owner_view me.0
     → (me.0.mutator.on ≡ false → me.0.mutator.lent ≡ 1) → Allows IsCore slots id me at (λ n. n) (λ _ after. LooksAgain me.0 after)
 looks_again views_ok me slots id at empty count owns tells s is homes here small =
     let o : Owned s id me.0 = owned s is id me.0 here owns in
@@ -171,12 +171,12 @@ looks_again views_ok me slots id at empty count owns tells s is homes here small
     )
 
 -- once a seat was taken back
-pub looks_after : ViewsAreOk → (old : Me (Unit {0}) View) (w : View) → IsOwner old → (me : Me (Unit {0}) View) → me ≡ (taker_view old.0 w, old.1)
+pub looks_after : ViewsAreOk → (old : Me (Unit {0}) RuleView) (w : RuleView) → IsOwner old → (me : Me (Unit {0}) RuleView) → me ≡ (taker_view old.0 w, old.1)
     → (slots id at : ℕ) → Allows IsCore slots id me at (λ n. n) (λ _ after. LooksAgain me.0 after)
 looks_after views_ok old w mine me e slots id at =
-    subst (λ (x : Me (Unit {0}) View). Allows IsCore slots id x at (λ n. n) (λ _ after. LooksAgain x.0 after)) (sym e)
+    subst (λ (x : Me (Unit {0}) RuleView). Allows IsCore slots id x at (λ n. n) (λ _ after. LooksAgain x.0 after)) (sym e)
     (looks_again views_ok (taker_view old.0 w, old.1) slots id at mine.empty mine.sure.count
-    (ap (λ (v : View). turned_to v (taken_back old.0 w.marker)) mine.owns) (tells_on old.0 w.marker))
+    (ap (λ (v : RuleView). turned_to v (taken_back old.0 w.marker)) mine.owns) (tells_on old.0 w.marker))
 
 pub some_word : (count words : ℕ) → AreWords count words → 0 < words
 some_word count words are = omega (arith, are.words)

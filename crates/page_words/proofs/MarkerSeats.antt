@@ -19,17 +19,17 @@ use Rattle.marker_core.specs.Views.{spent_view, view_at}
 use Rattle.page_words.specs.Heaps.{AreWords}
 use Rattle.page_words.specs.MarkerRule.{marker_side_of, marked_to, out_view, IsSureMarker, IsMarker, marker_seat_view, IsMarkerStepOf, MarkerFinds}
 use Rattle.page_words.specs.Markers.{MarkerSeatView}
-use Rattle.page_words.specs.Rule.{View, side_of, owner_view, marker_view, IsCore}
+use Rattle.page_words.specs.Rule.{RuleView, side_of, owner_view, marker_view, IsCore}
 use Rattle.page_words.specs.Seat.{Heap}
 
 -- ---- a marker's seat is not the first
 
 -- the mutator's view beside a marker's
-abbrev pub owner_beside : View → MutatorView → View
+abbrev pub owner_beside : RuleView → MutatorView → RuleView
 owner_beside w m = record { owner = true; count = w.count; types = w.types; mutator = m; marker = spent_view }
 
 -- the rule, told of a marker's seat with this view
-pub record Lent (s : State (Unit {0}) View) (id : ℕ) (w : View) : Type 0 where
+pub record Lent (s : State (Unit {0}) RuleView) (id : ℕ) (w : RuleView) : Type 0 where
   pub mutator : MutatorView
   pub markers : List MarkerView
   pub number : ℕ
@@ -39,36 +39,36 @@ pub record Lent (s : State (Unit {0}) View) (id : ℕ) (w : View) : Type 0 where
   pub there : view_at markers number ≡ w.marker
 
 -- the view of a seat that is not the first is a marker's
-pub marker_at : (v : View) (markers : List MarkerView) (k : ℕ) (w : View) → get_elem? (map (marker_view v) markers) k ≡ some w
+pub marker_at : (v : RuleView) (markers : List MarkerView) (k : ℕ) (w : RuleView) → get_elem? (map (marker_view v) markers) k ≡ some w
     → marker_view v (view_at markers k) ≡ w
 marker_at v [] k w e = absurd (some-ne-none w (sym e))
 marker_at v (m ∷ markers) zero w e = some-injective (marker_view v m) w e
 marker_at v (m ∷ markers) (suc k) w e = marker_at v markers k w e
 
-number_at : (v : View) (markers : List MarkerView) (id : ℕ) (w : View) → get_elem? (owner_view v ∷ map (marker_view v) markers) id ≡ some w
+number_at : (v : RuleView) (markers : List MarkerView) (id : ℕ) (w : RuleView) → get_elem? (owner_view v ∷ map (marker_view v) markers) id ≡ some w
     → w ≡ out_view w → (k : ℕ) × (id ≡ suc k) × (marker_view v (view_at markers k) ≡ w)
 number_at v markers zero w e out =
-    absurd (true≢false (ap (λ (x : View). x.owner) (some-injective (owner_view v) w e) ∙ ap (λ (x : View). x.owner) out))
+    absurd (true≢false (ap (λ (x : RuleView). x.owner) (some-injective (owner_view v) w e) ∙ ap (λ (x : RuleView). x.owner) out))
 number_at v markers (suc k) w e out = (k, refl, marker_at v markers k w e)
 
 -- a view that is not spent tells count and types
-counted : (v w : View) (m : MarkerView) → marker_view v m ≡ w → m.spent ≡ false → v.count ≡ w.count
-counted v w m same out = sym (cond-false m.spent 0 v.count out) ∙ ap (λ (x : View). x.count) same
+counted : (v w : RuleView) (m : MarkerView) → marker_view v m ≡ w → m.spent ≡ false → v.count ≡ w.count
+counted v w m same out = sym (cond-false m.spent 0 v.count out) ∙ ap (λ (x : RuleView). x.count) same
 
-typed : (v w : View) (m : MarkerView) → marker_view v m ≡ w → m.spent ≡ false → v.types ≡ w.types
-typed v w m same out = sym (cond-false m.spent [] v.types out) ∙ ap (λ (x : View). x.types) same
+typed : (v w : RuleView) (m : MarkerView) → marker_view v m ≡ w → m.spent ≡ false → v.types ≡ w.types
+typed v w m same out = sym (cond-false m.spent [] v.types out) ∙ ap (λ (x : RuleView). x.types) same
 
-same_owner : (v w : View) → v.count ≡ w.count → v.types ≡ w.types → owner_view v ≡ owner_beside w v.mutator
+same_owner : (v w : RuleView) → v.count ≡ w.count → v.types ≡ w.types → owner_view v ≡ owner_beside w v.mutator
 same_owner v w count types =
     ap (λ n. record { owner = true; count = n; types = v.types; mutator = v.mutator; marker = spent_view }) count
     ∙ ap (λ t. record { owner = true; count = w.count; types = t; mutator = v.mutator; marker = spent_view }) types
 
-pub lent : (s : State (Unit {0}) View) → IsCore s → (id : ℕ) (w : View) → get_elem? s.views id ≡ some w → w ≡ out_view w
+pub lent : (s : State (Unit {0}) RuleView) → IsCore s → (id : ℕ) (w : RuleView) → get_elem? s.views id ≡ some w → w ≡ out_view w
     → w.marker.spent ≡ false → Lent s id w
 lent s (v, markers, views, ok) id w at owns out =
-    let here = number_at v markers id w (subst (λ (vs : List View). get_elem? vs id ≡ some w) views at) owns in
+    let here = number_at v markers id w (subst (λ (vs : List RuleView). get_elem? vs id ≡ some w) views at) owns in
     let m : MarkerView = view_at markers here.0 in
-    let there : m ≡ w.marker = ap (λ (x : View). x.marker) here.2 in
+    let there : m ≡ w.marker = ap (λ (x : RuleView). x.marker) here.2 in
     let lives : m.spent ≡ false = ap (λ (x : MarkerView). x.spent) there ∙ out in
     let same : owner_view v ≡ owner_beside w v.mutator = same_owner v w (counted v w m here.2 lives) (typed v w m here.2 lives) in
     record {
@@ -76,16 +76,16 @@ lent s (v, markers, views, ok) id w at owns out =
       markers = markers;
       number = here.0;
       later = here.1;
-      views = views ∙ ap (λ (x : View). x ∷ map (marker_view x) markers) same;
-      ok = subst (λ (x : View). IsCoreOk (core_of (side_of x) s.words markers)) same ok;
+      views = views ∙ ap (λ (x : RuleView). x ∷ map (marker_view x) markers) same;
+      ok = subst (λ (x : RuleView). IsCoreOk (core_of (side_of x) s.words markers)) same ok;
       there = there;
     }
 
 -- the views after one that is not the first has changed
-pub later_set : (vs : List View) (id number : ℕ) (f : MarkerView → View) (first w : View) (m : MarkerView) (markers : List MarkerView)
+pub later_set : (vs : List RuleView) (id number : ℕ) (f : MarkerView → RuleView) (first w : RuleView) (m : MarkerView) (markers : List MarkerView)
     → vs ≡ first ∷ map f markers → id ≡ suc number → w ≡ f m → set vs id w ≡ first ∷ map f (set markers number m)
 later_set vs id number f first w m markers e later same =
-    ap (λ (xs : List View). set xs id w) e ∙ ap (λ k. set (first ∷ map f markers) k w) later
+    ap (λ (xs : List RuleView). set xs id w) e ∙ ap (λ k. set (first ∷ map f markers) k w) later
     ∙ ap (λ x. first ∷ set (map f markers) number x) same
     ∙ ap (λ xs. first ∷ xs) (sym (map-set f markers number m))
 
@@ -98,12 +98,12 @@ number_is_there markers number out = elim (cases_lt number (length markers)) [
 
 -- ---- what a step of a marker does
 
-module _ (keep : StepsKeep) (law : MarkerWordsMayBeFound) (table : TableId) (slots id at : ℕ) (me : Me (Unit {0}) View) (writes : ℕ → ℕ) (next : ℕ → MarkerView)
+module _ (keep : StepsKeep) (law : MarkerWordsMayBeFound) (table : TableId) (slots id at : ℕ) (me : Me (Unit {0}) RuleView) (writes : ℕ → ℕ) (next : ℕ → MarkerView)
     (mine : IsMarker me) (does : IsMarkerStepOf (marker_seat_view table me.0) at writes next) where
   -- the view that comes after is a marker's
   marker_is : (m : MarkerView) → m.spent ≡ false → marked_to me.0 m ≡ marker_view me.0 m
   marker_is m out =
-      ap (λ (v : View). marked_to v m) mine.owns
+      ap (λ (v : RuleView). marked_to v m) mine.owns
       ∙ ap (λ n. record { owner = false; count = n; types = me.0.types; mutator = idle_view; marker = m }) (sym (cond-false m.spent 0 me.0.count out))
       ∙ ap (λ t. record { owner = false; count = cond m.spent 0 me.0.count; types = t; mutator = idle_view; marker = m })
       (sym (cond-false m.spent [] me.0.types out))
@@ -137,7 +137,7 @@ module _ (keep : StepsKeep) (law : MarkerWordsMayBeFound) (table : TableId) (slo
           told = law (marker_side_of me.0) o.mutator s.words o.markers o.number at o.ok o.there mine.sure.out;
           marker = record {
             empty = mine.empty;
-            owns = ap (λ (v : View). marked_to v now) mine.owns;
+            owns = ap (λ (v : RuleView). marked_to v now) mine.owns;
             sure = record {
               count = mine.sure.count;
               out = out;
@@ -155,12 +155,12 @@ module _ (keep : StepsKeep) (law : MarkerWordsMayBeFound) (table : TableId) (slo
 
 -- ---- what is true of a marker's view
 
-pub marker_is_ok : MarkersAreOk → (v : View) → IsSureMarker v → IsMarkerOk (marker_side_of v)
+pub marker_is_ok : MarkersAreOk → (v : RuleView) → IsSureMarker v → IsMarkerOk (marker_side_of v)
 marker_is_ok law v sure = law (marker_side_of v) sure.mutator sure.words sure.markers sure.number sure.ok sure.there sure.out
 
 -- ---- seat and table fit
 
-pub same_table_as : (t u : TableId) (v : View) (count : ℕ) (seen : MarkerSeatView) (heap : Heap) → marker_seat_view t v ≡ seen → seen.heap ≡ heap
+pub same_table_as : (t u : TableId) (v : RuleView) (count : ℕ) (seen : MarkerSeatView) (heap : Heap) → marker_seat_view t v ≡ seen → seen.heap ≡ heap
     → record { count = count; table = u } ≡ heap → t ≡ u
 same_table_as t u v count seen heap is fits own =
     ap (λ (s : MarkerSeatView). s.heap.table) is ∙ ap (λ (h : Heap). h.table) fits ∙ sym (ap (λ (h : Heap). h.table) own)

@@ -6,10 +6,10 @@ use Rattle.marker_core.specs.Bodies.{IsPlace, holds}
 use Rattle.marker_core.specs.Layout.{has_mark, has_traced}
 use Rattle.marker_core.specs.SeatFacts.{IsHeaderAt}
 use Rattle.marker_core.specs.SeatSteps.{is_grey}
-use Rattle.page_words.specs.Seat.{SeatView, IsWordAt, side, is_grey_at}
+use Rattle.page_words.specs.Seat.{SeatView, TellsWordAt, side, is_grey_at}
 use Rattle.page_words.proofs.Bits.{grey_is_found}
 
-module _ (v : SeatView) (a w : ℕ) (is : IsWordAt v a w) (at : IsPlace v.bodies a) where
+module _ (v : SeatView) (a w : ℕ) (is : TellsWordAt v a w) (at : IsPlace v.bodies a) where
   told : IsHeaderAt (side v) a w
   told = is.header at.0 at.1 at.2
 

@@ -13,10 +13,10 @@ use Rattle.marker_core.specs.Seats.{core_of}
 use Rattle.marker_core.specs.Views.{spent_view}
 use Rattle.page_words.specs.Roles.{kind_lists}
 use Rattle.page_words.specs.Heaps.{IsCount}
-use Rattle.page_words.specs.Rule.{View, side_of, owner_view, IsCore, IsOwner}
+use Rattle.page_words.specs.Rule.{RuleView, side_of, owner_view, IsCore, IsOwner}
 
 -- the first view
-abbrev pub new_view : ℕ → List ObjectType → View
+abbrev pub new_view : ℕ → List ObjectType → RuleView
 new_view count types = record { owner = true; count = count; types = types; mutator = idle_view; marker = spent_view }
 
 module _ (law : IdleIsOk) (count : ℕ) (types : List ObjectType) (is : IsCount count) (few : length types ≤ 16383)

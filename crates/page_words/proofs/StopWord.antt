@@ -10,9 +10,9 @@ use Rattle.marker_core.specs.declared.states.Why.TheVariants.{Weak}
 use Rattle.marker_core.specs.Laws.{ReachOverIsLeast, IsLeastOver}
 use Rattle.page_words.specs.Seat.{SeatView, MaySetStop, with_mutator, stop_set, loaded}
 use Rattle.page_words.specs.Roles.{kind_lists}
-use Rattle.page_words.specs.Rule.{View, IsSure, seat_view}
+use Rattle.page_words.specs.Rule.{RuleView, IsSure, seat_view}
 
-module _ (law : ReachOverIsLeast) (table : TableId) (known : View) (sure : IsSure known) where
+module _ (law : ReachOverIsLeast) (table : TableId) (known : RuleView) (sure : IsSure known) where
   -- what may be kept once marking has begun is what the roots reach
   pub reach_may_be_kept : (roots : List ℕ) (on : Bool) → MaySetStop (seat_view table known) on → on ≡ false
       → IsLeastOver (kind_lists known.types) known.mutator.bodies roots (stop_set (seat_view table known) roots on).may

@@ -18,10 +18,10 @@ use Rattle.marker_core.specs.SeatFacts.{IsViewOk, ViewsAreOk, MayBeFound, IsHead
 use Rattle.page_words.proofs.Elements.{members_are}
 use Rattle.atomic_table.specs.Seated.{TableId}
 use Rattle.page_words.specs.BodyPlaces.{place_below, within_heap}
-use Rattle.page_words.specs.Rule.{View, side_of, IsSure, seat_view}
+use Rattle.page_words.specs.Rule.{RuleView, side_of, IsSure, seat_view}
 use Rattle.page_words.specs.PlaceTests.{place_of_test, test_of_place, outside_of_test}
 use Rattle.page_words.specs.Roles.{kind_lists}
-use Rattle.page_words.specs.Seat.{SeatView, IsView, IsWordAt, side, header_of, with_mutator, loaded}
+use Rattle.page_words.specs.Seat.{SeatView, IsView, TellsWordAt, side, header_of, with_mutator, loaded}
 
 -- two bodies that share a word are one
 shared : (bodies : List Body) → LieApart bodies → (b c : Body) (a : ℕ) → Contains bodies b → Contains bodies c → b.place ≤ a → a < end_of b
@@ -44,7 +44,7 @@ shared bodies apart b c a hb hc from until from_too until_too =
       ]
     ]
 
-pub view_is : ViewsAreOk → (table : TableId) (v : View) → IsSure v → IsView (seat_view table v)
+pub view_is : ViewsAreOk → (table : TableId) (v : RuleView) → IsSure v → IsView (seat_view table v)
 view_is law table v sure =
     let ok : IsViewOk (side_of v) = law (side_of v) sure.words sure.markers sure.ok in
     record {
@@ -72,7 +72,7 @@ told_alone v a w told alone b there at =
     ∙ ap (λ t. header_word true (holds v.marked a) t b.ty b.size) (told.traced.alone alone)
     ∙ ap (λ p. header_word true (holds v.marked p) (holds v.traced p) b.ty b.size) (sym at)
 
-pub word_is : (v : SeatView) (a w : ℕ) → MayBeFound (side v) a w → IsWordAt v a w
+pub word_is : (v : SeatView) (a w : ℕ) → MayBeFound (side v) a w → TellsWordAt v a w
 word_is v a w found = record {
   header = λ b there at. found.header (test_of_place v.bodies a (b, there, at));
   alone = λ alone b there at. told_alone v a w (found.header (test_of_place v.bodies a (b, there, at))) alone b there at;

@@ -19,8 +19,8 @@ abbrev pub is_reference_word : List ObjectType → Body → ℕ → Bool
 is_reference_word types b i = not (is_plain (kind_in types b i))
 
 -- the word at a is a field word of one of the bodies, and is plain
-abbrev pub IsPlainWord : List ObjectType → List Body → ℕ → Type 0
-IsPlainWord types bodies a =
+abbrev pub IsPlainWordAt : List ObjectType → List Body → ℕ → Type 0
+IsPlainWordAt types bodies a =
     (b : Body) × Contains bodies b × (fields_at b ≤ a) × (a < end_of b) × (is_reference_word types b (a - fields_at b) ≡ false)
 
 -- the body's field word with the number i is the key of a pair; the pair's value is in the word after it

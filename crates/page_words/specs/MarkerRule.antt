@@ -15,22 +15,22 @@ use Rattle.marker_core.specs.Views.{fresh_view, spent_view, view_at}
 use Rattle.page_words.specs.Heaps.{IsCount}
 use Rattle.page_words.specs.Markers.{MarkerSeatView, marker_side}
 use Rattle.page_words.specs.Roles.{kind_lists}
-use Rattle.page_words.specs.Rule.{View, side_of, turned_to, marker_view, IsOwner}
+use Rattle.page_words.specs.Rule.{RuleView, side_of, turned_to, marker_view, IsOwner}
 
 -- what the step machine looks at in a marker's
-abbrev pub marker_side_of : View → MarkerSide
+abbrev pub marker_side_of : RuleView → MarkerSide
 marker_side_of v = record { count = v.count; types = kind_lists v.types; marker = v.marker }
 
 -- the same with another view of the marker
-abbrev pub marked_to : View → MarkerView → View
+abbrev pub marked_to : RuleView → MarkerView → RuleView
 marked_to v m = record v { marker = m }
 
 -- what a marker's seat knows
-abbrev pub out_view : View → View
+abbrev pub out_view : RuleView → RuleView
 out_view v = record { owner = false; count = v.count; types = v.types; mutator = idle_view; marker = v.marker }
 
 -- there are words, a view of the mutator, and markers one of which has this view, which is not spent
-pub record IsSureMarker (v : View) : Type 0 where
+pub record IsSureMarker (v : RuleView) : Type 0 where
   pub count : IsCount v.count
   pub out : v.marker.spent ≡ false
   pub mutator : MutatorView
@@ -41,13 +41,13 @@ pub record IsSureMarker (v : View) : Type 0 where
   pub there : view_at markers number ≡ v.marker
 
 -- a seat of the table is a marker's: it holds no slot and has a marker's view
-pub record IsMarker (me : Me (Unit {0}) View) : Type 0 where
+pub record IsMarker (me : Me (Unit {0}) RuleView) : Type 0 where
   pub empty : me.1 ≡ []
   pub owns : me.0 ≡ out_view me.0
   pub sure : IsSureMarker me.0
 
 -- what contracts see of a marker's seat
-abbrev pub marker_seat_view : TableId → View → MarkerSeatView
+abbrev pub marker_seat_view : TableId → RuleView → MarkerSeatView
 marker_seat_view table v = record { heap = record { count = v.count; table = table }; types = v.types; marker = v.marker }
 
 -- ---- one step
@@ -62,7 +62,7 @@ pub record IsMarkerStepOf (v : MarkerSeatView) (at : ℕ) (writes : ℕ → ℕ)
   pub out : v.marker.spent ≡ false → (n : ℕ) → (next n).spent ≡ false
 
 -- the marker's seat has found a word, which its view tells, and has the next view for it
-pub record MarkerFinds (before : View) (at : ℕ) (next : ℕ → MarkerView) (found : ℕ) (after : Me (Unit {0}) View) : Type 0 where
+pub record MarkerFinds (before : RuleView) (at : ℕ) (next : ℕ → MarkerView) (found : ℕ) (after : Me (Unit {0}) RuleView) : Type 0 where
   pub told : MarkerMayFind (marker_side_of before) at found
   pub marker : IsMarker after
   pub view : after.0 ≡ marked_to before (next found)
@@ -70,15 +70,15 @@ pub record MarkerFinds (before : View) (at : ℕ) (next : ℕ → MarkerView) (f
 -- ---- a seat is lent, and given back
 
 -- what the mutator's seat knows after it lent one
-abbrev pub lender_view : View → View
+abbrev pub lender_view : RuleView → RuleView
 lender_view v = turned_to v (seat_lent (side_of v))
 
 -- what a seat knows that was just lent
-abbrev pub lent_view : View → View
+abbrev pub lent_view : RuleView → RuleView
 lent_view v = marker_view v fresh_view
 
 -- what a seat that was given back knows: nothing
-abbrev pub given_view : View
+abbrev pub given_view : RuleView
 given_view = record { owner = false; count = 0; types = []; mutator = idle_view; marker = spent_view }
 
 -- a view that the mutator has in no state: no marking goes on, and yet a seat is lent
@@ -87,15 +87,15 @@ impossible_view = record idle_view { lent = 1 }
 
 -- what the mutator knows once this was given back. That marking goes on and a seat is lent is true wherever a seat can be given
 -- back; the test is there so that the view tells it
-abbrev pub taken_back : View → MarkerView → MutatorView
+abbrev pub taken_back : RuleView → MarkerView → MutatorView
 taken_back v given = if v.mutator.on && not (v.mutator.lent == 0) then seat_joined (side_of v) given else impossible_view
 
 -- what the mutator's seat knows after another was given back to it
-abbrev pub taker_view : View → View → View
+abbrev pub taker_view : RuleView → RuleView → RuleView
 taker_view v given = turned_to v (taken_back v given.marker)
 
 -- the mutator's seat has looked again: its view is what it was, and marking goes on
-pub record LooksAgain (before : View) (after : Me (Unit {0}) View) : Type 0 where
+pub record LooksAgain (before : RuleView) (after : Me (Unit {0}) RuleView) : Type 0 where
   pub owner : IsOwner after
   pub view : after.0 ≡ before
   pub on : before.mutator.on ≡ true

@@ -18,7 +18,7 @@ use Rattle.page_words.specs.Seat.{SeatView, IsView, side}
 
 -- what a seat of the table knows: whether it is the mutator's, how many words the heap has, the types of its objects, and
 -- the mutator's view or a marker's
-pub record View : Type 0 where
+pub record RuleView : Type 0 where
   pub owner : Bool
   pub count : ℕ
   pub types : List ObjectType
@@ -26,19 +26,19 @@ pub record View : Type 0 where
   pub marker : MarkerView
 
 -- what the step machine looks at in the mutator's
-abbrev pub side_of : View → SeatSide
+abbrev pub side_of : RuleView → SeatSide
 side_of v = record { count = v.count; types = kind_lists v.types; mutator = v.mutator }
 
 -- the same with another view of the mutator
-abbrev pub turned_to : View → MutatorView → View
+abbrev pub turned_to : RuleView → MutatorView → RuleView
 turned_to v m = record v { mutator = m }
 
 -- what the mutator's seat knows
-abbrev pub owner_view : View → View
+abbrev pub owner_view : RuleView → RuleView
 owner_view v = record { owner = true; count = v.count; types = v.types; mutator = v.mutator; marker = spent_view }
 
 -- what the seat of a marker knows beside it; one that was given back knows nothing
-abbrev pub marker_view : View → MarkerView → View
+abbrev pub marker_view : RuleView → MarkerView → RuleView
 marker_view v m = record {
   owner = false;
   count = if m.spent then 0 else v.count;
@@ -49,13 +49,13 @@ marker_view v m = record {
 
 -- the rule: the mutator's seat is the first and the others are markers', and the words and all views are a state of the step
 -- machine of which all is true that is true of every state
-abbrev pub IsCore : State (Unit {0}) View → Type 0
+abbrev pub IsCore : State (Unit {0}) RuleView → Type 0
 IsCore s =
-    (v : View) × (markers : List MarkerView) × (s.views ≡ owner_view v ∷ map (marker_view v) markers)
+    (v : RuleView) × (markers : List MarkerView) × (s.views ≡ owner_view v ∷ map (marker_view v) markers)
     × IsCoreOk (core_of (side_of v) s.words markers)
 
 -- there are words and markers beside which this is the mutator's view
-pub record IsSure (v : View) : Type 0 where
+pub record IsSure (v : RuleView) : Type 0 where
   pub count : IsCount v.count
   pub words : List ℕ
   pub markers : List MarkerView
@@ -63,13 +63,13 @@ pub record IsSure (v : View) : Type 0 where
   pub none_noted : v.mutator.on ≡ false → v.mutator.noted ≡ []
 
 -- a seat of the table is the mutator's: it holds no slot and has the mutator's view
-pub record IsOwner (me : Me (Unit {0}) View) : Type 0 where
+pub record IsOwner (me : Me (Unit {0}) RuleView) : Type 0 where
   pub empty : me.1 ≡ []
   pub owns : me.0 ≡ owner_view me.0
   pub sure : IsSure me.0
 
 -- what contracts see of the mutator's seat
-abbrev pub seat_view : TableId → View → SeatView
+abbrev pub seat_view : TableId → RuleView → SeatView
 seat_view table v = record { heap = record { count = v.count; table = table }; types = v.types; mutator = v.mutator }
 
 -- ---- one step
@@ -84,11 +84,11 @@ pub record IsStepOf (v : SeatView) (at : ℕ) (writes : ℕ → ℕ) (next : ℕ
   pub quiet : IsView v → (n : ℕ) → (next n).on ≡ false → (next n).noted ≡ []
 
 -- the mutator's seat has written: it has the next view
-pub record Turns (before : View) (next : MutatorView) (after : Me (Unit {0}) View) : Type 0 where
+pub record Turns (before : RuleView) (next : MutatorView) (after : Me (Unit {0}) RuleView) : Type 0 where
   pub owner : IsOwner after
   pub view : after.0 ≡ turned_to before next
 
 -- it has found a word, which its view tells, and has the next view for it
-pub record Finds (before : View) (at : ℕ) (next : ℕ → MutatorView) (found : ℕ) (after : Me (Unit {0}) View) : Type 0 where
+pub record Finds (before : RuleView) (at : ℕ) (next : ℕ → MutatorView) (found : ℕ) (after : Me (Unit {0}) RuleView) : Type 0 where
   pub told : MayBeFound (side_of before) at found
   pub turns : Turns before (next found) after

@@ -56,7 +56,7 @@ abbrev pub header_of : SeatView → Body → ℕ
 header_of v b = header_word true (holds v.marked b.place) (holds v.traced b.place) b.ty b.size
 
 -- w is the word at a, as far as the view tells: marks and traced bits are exact where no view is lent
-pub record IsWordAt (v : SeatView) (a w : ℕ) : Type 0 where
+pub record TellsWordAt (v : SeatView) (a w : ℕ) : Type 0 where
   pub header : (b : Body) → Contains v.bodies b → b.place ≡ a → IsHeaderAt (side v) a w
   pub alone : v.lent ≡ 0 → (b : Body) → Contains v.bodies b → b.place ≡ a → w ≡ header_of v b
   pub serial : (b : Body) → Contains v.bodies b → b.place + serial_offset ≡ a → w ≡ b.serial

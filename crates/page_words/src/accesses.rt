@@ -5,7 +5,7 @@ ghost use Rattle.std.specs.Prelude.{◌≡◌, ◌≤◌, bit_and, bit_or};
 ghost use Rattle.marker_core.specs.Layout.{stop_at};
 ghost use Rattle.marker_core.specs.SeatLaws.{exchanged};
 ghost use Rattle.page_words.specs.Rule.{IsStepOf};
-ghost use Rattle.page_words.specs.Seat.{IsWordAt, with_mutator};
+ghost use Rattle.page_words.specs.Seat.{TellsWordAt, with_mutator};
 
 use crate::mutator::MutatorSeat;
 use crate::views::{Finding, Next, Writing};
@@ -18,7 +18,7 @@ impl Words {
         requires heap { seat.old.heap ≡ self.now }
         requires address { at ≤ stop_at seat.old.count }
         requires step { IsStepOf seat.old at (λ n. n) N.next }
-        ensures word { IsWordAt seat.old at result }
+        ensures word { TellsWordAt seat.old at result }
         ensures view { seat.new ≡ with_mutator seat.old (N.next result) }
     {
         words_may_be_found();
@@ -48,7 +48,7 @@ impl Words {
         requires heap { seat.old.heap ≡ self.now }
         requires address { at ≤ stop_at seat.old.count }
         requires step { IsStepOf seat.old at (λ n. bit_or n bits) N.next }
-        ensures word { IsWordAt seat.old at result }
+        ensures word { TellsWordAt seat.old at result }
         ensures view { seat.new ≡ with_mutator seat.old (N.next result) }
     {
         words_may_be_found();
@@ -64,7 +64,7 @@ impl Words {
         requires heap { seat.old.heap ≡ self.now }
         requires address { at ≤ stop_at seat.old.count }
         requires step { IsStepOf seat.old at (λ n. bit_and n bits) N.next }
-        ensures word { IsWordAt seat.old at result }
+        ensures word { TellsWordAt seat.old at result }
         ensures view { seat.new ≡ with_mutator seat.old (N.next result) }
     {
         words_may_be_found();
@@ -86,7 +86,7 @@ impl Words {
         requires heap { seat.old.heap ≡ self.now }
         requires address { at ≤ stop_at seat.old.count }
         requires step { IsStepOf seat.old at (exchanged expected new) N.next }
-        ensures word { IsWordAt seat.old at result }
+        ensures word { TellsWordAt seat.old at result }
         ensures view { seat.new ≡ with_mutator seat.old (N.next result) }
     {
         words_may_be_found();

@@ -13,7 +13,7 @@ ghost use Rattle.marker_core.specs.SeatLaws.{IsReadyToPublish};
 ghost use Rattle.marker_core.specs.SeatSteps.{is_grey, seat_can_load, seat_can_store};
 ghost use Rattle.page_words.specs.Heaps.{IsCount};
 ghost use Rattle.page_words.specs.Roles.{kind_lists};
-ghost use Rattle.page_words.specs.Seat.{Heap, side, IsWordAt, OnlyLooked, loaded, filled_with};
+ghost use Rattle.page_words.specs.Seat.{Heap, side, TellsWordAt, OnlyLooked, loaded, filled_with};
 ghost use Rattle.page_words.specs.Seat.{stored, rewritten, published, IsUnnamed, retracted};
 ghost use Rattle.page_words.specs.Seat.{marked_at, is_grey_at, claimed_at, unmarked_at};
 ghost use Rattle.page_words.specs.Seat.{MaySetStop, ended, stop_set, IsPlaceFrom};
@@ -36,7 +36,7 @@ pub trait Bodywords {
         requires heap { seat.old.heap ≡ heap self.now }
         requires address { a ≤ stop_at seat.old.count }
         requires allowed { seat_can_load (side seat.old) a W.why ≡ true }
-        ensures word { IsWordAt seat.old a result }
+        ensures word { TellsWordAt seat.old a result }
         ensures view { seat.new ≡ loaded seat.old a W.why result }
         ensures read { W.why ≡ Read → OnlyLooked seat.old seat.new }
         ensures beside { W.why ≡ Read → (IsPlace seat.old.bodies a → ⊥) → seat.new ≡ seat.old }
@@ -85,7 +85,7 @@ pub trait Bodywords {
         requires header { (b : Body) → Contains seat.old.bodies b → b.place ≡ a
             → header ≡ header_word true true false b.ty b.size }
         ensures grey { seat.old.lent ≡ 0 → result ≡ is_grey_at seat.old a }
-        ensures view { (found : ℕ) × IsWordAt seat.old a found × (result ≡ is_grey found)
+        ensures view { (found : ℕ) × TellsWordAt seat.old a found × (result ≡ is_grey found)
             × (seat.new ≡ claimed_at seat.old a found) };
 
     fn unmark(&self, seat: &mut MutatorSeat, a: u32)

@@ -9,7 +9,7 @@ ghost use Rattle.marker_core.specs.Layout as layout;
 ghost use Rattle.marker_core.specs.Laws.{IsLeastOver};
 ghost use Rattle.marker_core.specs.SeatSteps.{is_grey};
 ghost use Rattle.page_words.specs.Roles.{kind_lists};
-ghost use Rattle.page_words.specs.Seat.{IsWordAt, marked_at, is_grey_at, claimed_at, unmarked_at};
+ghost use Rattle.page_words.specs.Seat.{TellsWordAt, marked_at, is_grey_at, claimed_at, unmarked_at};
 ghost use Rattle.page_words.specs.Seat.{MaySetStop, ended, stop_set};
 
 use crate::mutator::MutatorSeat;
@@ -54,7 +54,7 @@ impl Words {
         requires header { (b : Body) → Contains seat.old.bodies b → b.place ≡ a
             → header ≡ header_word true true false b.ty b.size }
         ensures grey { seat.old.lent ≡ 0 → result ≡ is_grey_at seat.old a }
-        ensures view { (found : ℕ) × IsWordAt seat.old a found × (result ≡ is_grey found)
+        ensures view { (found : ℕ) × TellsWordAt seat.old a found × (result ≡ is_grey found)
             × (seat.new ≡ claimed_at seat.old a found) }
     {
         claims_are_steps();

@@ -20,9 +20,9 @@ impl Model for Views {
     ghost use Rattle.std.specs.Prelude.{[], true};
     ghost use Rattle.marker_core.specs.Idle.{idle_view};
     ghost use Rattle.marker_core.specs.Views.{spent_view};
-    ghost use Rattle.page_words.specs.Rule.{View};
+    ghost use Rattle.page_words.specs.Rule.{RuleView};
 
-    ghost Value = { View };
+    ghost Value = { RuleView };
 
     ghost view = { λ s. record {
       owner = true;

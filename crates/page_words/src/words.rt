@@ -11,7 +11,7 @@ ghost use Rattle.marker_core.specs.SeatLaws.{IsReadyToPublish};
 ghost use Rattle.marker_core.specs.SeatSteps.{seat_can_load, seat_can_store};
 ghost use Rattle.page_words.specs.Roles.{kind_lists};
 ghost use Rattle.page_words.specs.Rule.{IsStepOf};
-ghost use Rattle.page_words.specs.Seat.{side, IsWordAt, empty_view, loaded, OnlyLooked, filled_with};
+ghost use Rattle.page_words.specs.Seat.{side, TellsWordAt, empty_view, loaded, OnlyLooked, filled_with};
 ghost use Rattle.page_words.specs.Seat.{stored, rewritten, published, IsUnnamed, retracted};
 ghost use Rattle.page_words.specs.Seat.{with_mutator};
 ghost use Rattle.page_words.specs.Heaps.{IsCount};
@@ -88,7 +88,7 @@ impl Words {
         requires heap { seat.old.heap ≡ self.now }
         requires address { a ≤ stop_at seat.old.count }
         requires allowed { seat_can_load (side seat.old) a W.why ≡ true }
-        ensures word { IsWordAt seat.old a result }
+        ensures word { TellsWordAt seat.old a result }
         ensures view { seat.new ≡ loaded seat.old a W.why result }
         ensures read { W.why ≡ Read → OnlyLooked seat.old seat.new }
         ensures beside { W.why ≡ Read → (IsPlace seat.old.bodies a → ⊥) → seat.new ≡ seat.old }

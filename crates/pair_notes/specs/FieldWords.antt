@@ -13,7 +13,7 @@ use Rattle.page_words.specs.MachineBodies.{field_word_count, IsPlace}
 use Rattle.page_words.specs.Hands.{part_found}
 use Rattle.page_words.specs.BodyPlaces.{whole_body, same_body, no_place_within}
 use Rattle.page_words.specs.Roles.{kinds_fit, word_count_is}
-use Rattle.page_words.specs.Seat.{SeatView, IsView, IsWordAt}
+use Rattle.page_words.specs.Seat.{SeatView, IsView, TellsWordAt}
 use Rattle.pair_notes.specs.BodyGraph.{HasStrong, HasPair, strong_offsets, pair_offsets, word_at}
 use Rattle.pair_notes.specs.InHand.{IsAt, IsAtTarget}
 use Rattle.pair_notes.specs.BodyGraph.{HasWord}
@@ -46,7 +46,7 @@ word_is_no_place v holder offset view has at =
     (subst (λ p. IsPlace v.bodies (p + offset)) (sym has.2) at)
 
 -- a field word is read as it is
-pub read_word : (v : SeatView) (holder offset w : ℕ) → IsView v → HasWord v.bodies holder offset → IsWordAt v (holder + offset) w → (b : Body)
+pub read_word : (v : SeatView) (holder offset w : ℕ) → IsView v → HasWord v.bodies holder offset → TellsWordAt v (holder + offset) w → (b : Body)
     → Contains v.bodies b → b.place ≡ holder → w ≡ word_at b offset
 read_word v holder offset w view has word b there at =
     let one : has.0 ≡ b = same_body v has.0 b view has.1 there (has.2 ∙ sym at) in

@@ -7,7 +7,7 @@ use Rattle.marker_core.specs.Bodies.{IsPlace, holds}
 use Rattle.marker_core.specs.declared.states.Body.{Body}
 use Rattle.page_space.specs.Seat.{SeatView, IsView, IsQuiet}
 use Rattle.page_space.specs.Pages.{word_count, is_between}
-use Rattle.page_space.specs.Space.{SpaceView, IsSpaceOf, extent_of}
+use Rattle.page_space.specs.Space.{SpaceView, IsSpaceOf, body_extent}
 use Rattle.sweeper.specs.Sweeping.{IsClearBelow, is_dead_in, swept_in, all_swept, dead_between, outside}
 use Rattle.sweeper.proofs.Filters.{filter_same}
 use Rattle.sweeper.proofs.Places.{between, outside_none}
@@ -65,5 +65,5 @@ all_end from v view clear =
 -- each dead body has two words at least
 pub dead_few : (space : SpaceView) (v : SeatView) (from until : ℕ) → IsSpaceOf space v → 2 * dead_between from until v ≤ word_count space.shape
 dead_few space v from until over =
-    let half = count_half (is_dead_in from until v) extent_of (λ (e : Extent). e.size) v.bodies over.sizes in
+    let half = count_half (is_dead_in from until v) body_extent (λ (e : Extent). e.size) v.bodies over.sizes in
     omega (arith, half, over.free, over.seat)

@@ -10,7 +10,7 @@ use Rattle.marker_core.specs.Hands.{each_hand, hand_after_mark, hand_claimed, ha
 use Rattle.marker_core.specs.Layout.{type_in}
 use Rattle.marker_core.specs.SeatSteps.{is_grey, settled}
 use Rattle.page_words.specs.Roles.{kind_lists}
-use Rattle.page_words.specs.Seat.{SeatView, OnlyLooked, IsWordAt, is_grey_at, marked_at, claimed_at, begun, ended, unmarked_at}
+use Rattle.page_words.specs.Seat.{SeatView, OnlyLooked, TellsWordAt, is_grey_at, marked_at, claimed_at, begun, ended, unmarked_at}
 use Rattle.page_space.specs.Occupying.{new_body}
 use Rattle.page_space.specs.Space.{SpaceView, IsSeatOf, IsFreePlace, extents_of_bodies}
 use Rattle.words_trials.specs.Ends.{AreEnds, IsEnd, end_body, end_bodies}
@@ -117,7 +117,7 @@ no_hand a (suc zero) = refl
 no_hand a (suc (suc ty)) = refl
 
 pub claimed_goes : (space : SpaceView) (v w : SeatView) (m t : List ℕ) (a : ℕ) (result : Bool) → AreGoing space v m t
-    → (found : ℕ) × IsWordAt v a found × (result ≡ is_grey found) × (w ≡ claimed_at v a found) → (v.lent ≡ 0 → result ≡ is_grey_at v a)
+    → (found : ℕ) × TellsWordAt v a found × (result ≡ is_grey found) × (w ≡ claimed_at v a found) → (v.lent ≡ 0 → result ≡ is_grey_at v a)
     → AreGoing space w m (traced_too m t a)
 claimed_goes space v w m t a result are claimed fresh =
     let found : ℕ = claimed.0 in

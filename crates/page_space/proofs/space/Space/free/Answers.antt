@@ -8,7 +8,7 @@ use Rattle.gap_bounds.specs.Seat.{SeatView, IsView, IsUnnamed, OnlyLooked}
 use Rattle.gap_bounds.specs.BodyPlaces.{two_words, within_heap}
 use Rattle.gap_bounds.specs.Gaps.{KnowsGaps}
 use Rattle.page_space.specs.Pages.{word_count}
-use Rattle.page_space.specs.Space.{heap_of, SpaceView, IsSpaceOver, extent_of, extents_of_bodies}
+use Rattle.page_space.specs.Space.{heap_of, SpaceView, IsSpaceOver, body_extent, extents_of_bodies}
 use Rattle.page_space.proofs.Shapes.{shape_words}
 use Rattle.gc_graph.specs.Members.{Contains-map}
 use Rattle.page_space.proofs.Extents.{others, one_less}
@@ -25,10 +25,10 @@ IsSizeAt v a size = (b : Body) → Contains v.bodies b → b.place ≡ a → siz
 freed_extent : (v : SeatView) (a size : ℕ) → IsView v → holds v.dead a ≡ true → IsSizeAt v a size → Contains (extents_of_bodies v.bodies) (record { place = a; size = size })
 freed_extent v a size is dead told =
     let start : IsPlace v.bodies a = (is.dead_are_unmarked a dead).0 in
-    let same : extent_of start.0 ≡ record { place = a; size = size } =
+    let same : body_extent start.0 ≡ record { place = a; size = size } =
     ap (λ p. let e : Extent = record { place = p; size = start.0.size } in e) start.2
     ∙ ap (λ s. let e : Extent = record { place = a; size = s } in e) (sym (told start.0 start.1 start.2)) in
-    subst (Contains (extents_of_bodies v.bodies)) same (Contains-map extent_of v.bodies start.0 start.1)
+    subst (Contains (extents_of_bodies v.bodies)) same (Contains-map body_extent v.bodies start.0 start.1)
 
 -- it has a header and a serial number, and ends in the heap
 freed_inside : (v : SeatView) (a size : ℕ) → IsView v → holds v.dead a ≡ true → IsSizeAt v a size → (2 ≤ size) × (a + size ≤ v.count)

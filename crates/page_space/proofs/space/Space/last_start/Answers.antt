@@ -2,7 +2,7 @@ use Rattle.std.proofs.Common.{◌≡◌, ℕ, ◌+◌, ◌-◌, ◌*◌, ◌/◌
 use Rattle.page_space.specs.Space.{heap_of}
 use Rattle.std.proofs.lemmas.Bool.{cases_lt}
 use Rattle.gap_bounds.specs.BodyPlaces.{no_place_beyond}
-use Rattle.gap_bounds.specs.Seat.{Heap, SeatView, IsView, IsWordAt}
+use Rattle.gap_bounds.specs.Seat.{Heap, SeatView, IsView, TellsWordAt}
 use Rattle.page_space.specs.Pages.{word_count}
 use Rattle.page_space.proofs.StartBits.{IsBitsAt, IsLastPlace, no_bits, highest_bit}
 use Rattle.page_space.proofs.space.Space.last_start.Goals as goal
@@ -23,9 +23,9 @@ returns-then-bits-ne0-clause-found c =
     let count : c.count.result ≡ c.args.seat.now.count =
     c.count.ensures.count ∙ ap (λ (h : Heap). h.count) (c.deref-in-loop-word.ensures ∙ c.self.invariant.words ∙ ap heap_of c.self.view_is ∙ sym c.requires.heap) in
     let at : ℕ = c.loop-word.word - 1 in
-    let word : IsWordAt c.args.seat.now (c.args.seat.now.count + at) c.load-bits.result =
-    subst (λ n. IsWordAt c.args.seat.now (n + at) c.load-bits.result) count
-    (subst (λ v. IsWordAt v (c.count.result + at) c.load-bits.result) view c.load-bits.ensures.word) in
+    let word : TellsWordAt c.args.seat.now (c.args.seat.now.count + at) c.load-bits.result =
+    subst (λ n. TellsWordAt c.args.seat.now (n + at) c.load-bits.result) count
+    (subst (λ v. TellsWordAt v (c.count.result + at) c.load-bits.result) view c.load-bits.ensures.word) in
     let last : IsLastPlace c.args.seat.now at (64 * at + c.ilog2.result) =
     highest_bit c.args.seat.now c.load-bits.result at c.ilog2.result word
     (omega (arith, ap (λ (h : Heap). h.count) c.requires.heap, c.requires.end, c.loop-word.invariant.high, c.loop-word-test.true)) c.ilog2.ensures.power_le c.ilog2.ensures.next_power_gt c.ilog2.ensures.bound in
@@ -48,9 +48,9 @@ loop-word-preserved c =
     let at : ℕ = c.loop-word.word - 1 in
     let same : 64 * at / 64 ≡ at = omega arith in
     let word : IsBitsAt c.args.seat.now (64 * at) c.load-bits.result =
-    subst (λ n. IsWordAt c.args.seat.now (c.args.seat.now.count + n) c.load-bits.result) (sym same)
-    (subst (λ n. IsWordAt c.args.seat.now (n + at) c.load-bits.result) count
-    (subst (λ v. IsWordAt v (c.count.result + at) c.load-bits.result) view c.load-bits.ensures.word)) in
+    subst (λ n. TellsWordAt c.args.seat.now (c.args.seat.now.count + n) c.load-bits.result) (sym same)
+    (subst (λ n. TellsWordAt c.args.seat.now (n + at) c.load-bits.result) count
+    (subst (λ v. TellsWordAt v (c.count.result + at) c.load-bits.result) view c.load-bits.ensures.word)) in
     let bits : 0 ≡ c.load-bits.result / 2 ^ (64 * at % 64) =
     sym (ap (λ n. n / 2 ^ (64 * at % 64)) c.if-bits-ne0.false ∙ ap (λ k. 0 / 2 ^ k) (let e : 64 * at % 64 ≡ 0 = omega arith in e)) in
     record {

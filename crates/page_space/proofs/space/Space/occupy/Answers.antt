@@ -5,7 +5,7 @@ use Rattle.std.proofs.lemmas.List.{map_push}
 use Rattle.gc_graph.specs.Placement.{Extent}
 use Rattle.gap_bounds.specs.Seat.{Heap}
 use Rattle.page_space.specs.Pages.{is_in_page}
-use Rattle.page_space.specs.Space.{heap_of, SpaceView, IsSpaceOver, IsFreePlace, extent_of, extents_of_bodies}
+use Rattle.page_space.specs.Space.{heap_of, SpaceView, IsSpaceOver, IsFreePlace, body_extent, extents_of_bodies}
 use Rattle.page_space.specs.Occupying.{new_body}
 use Rattle.page_space.proofs.Shapes.{shape_words}
 use Rattle.page_space.proofs.PlaceBodies.{taken_by_body}
@@ -85,7 +85,7 @@ returns-clause-space c =
     let count : c.write_object.new.seat.count ≡ c.args.seat.now.count = ap (λ (h : Heap). h.count) c.write_object.ensures.heap in
     let extents : extents_of_bodies c.write_object.new.seat.bodies ≡ es ++ e ∷ [] =
     ap extents_of_bodies c.write_object.ensures.bodies
-    ∙ map_push extent_of c.args.seat.now.bodies (new_body c.args.a c.args.ty c.args.size c.args.serial) in
+    ∙ map_push body_extent c.args.seat.now.bodies (new_body c.args.a c.args.ty c.args.size c.args.serial) in
     record {
       words = c.write_object.ensures.heap ∙ c.requires.space.words ∙ ap heap_of (sym c.self.view_is);
       over = rw (count, extents) now;

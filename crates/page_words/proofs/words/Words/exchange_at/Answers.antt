@@ -1,7 +1,7 @@
 use Rattle.std.proofs.Common.{sym, subst}
 use Rattle.marker_core.specs.SeatLaws.{exchanged}
 use Rattle.page_words.specs.Rule.{IsStepOf, seat_view}
-use Rattle.page_words.specs.Seat.{SeatView, IsWordAt}
+use Rattle.page_words.specs.Seat.{SeatView, TellsWordAt}
 use Rattle.page_words.proofs.Owning.{same_table, within_table, finds}
 use Rattle.page_words.proofs.ViewFacts.{word_is}
 use Rattle.page_words.proofs.words.Words.exchange_at.Goals as goal
@@ -19,5 +19,5 @@ compare_exchange-requires g c = (
 
 pub returns-clause-word : goal.returns-clause-word
 returns-clause-word g c =
-    subst (λ (s : SeatView). IsWordAt s c.args.at c.compare_exchange.result) c.seat.view_is
+    subst (λ (s : SeatView). TellsWordAt s c.args.at c.compare_exchange.result) c.seat.view_is
     (word_is (seat_view c.seat.inside.seat.table_id c.seat.inside.seat.me.0) c.args.at c.compare_exchange.result c.compare_exchange.ensures.2.told)

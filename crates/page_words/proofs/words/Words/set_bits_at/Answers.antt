@@ -1,6 +1,6 @@
 use Rattle.std.proofs.Common.{bit_or, sym, subst}
 use Rattle.page_words.specs.Rule.{IsStepOf, seat_view}
-use Rattle.page_words.specs.Seat.{SeatView, IsWordAt}
+use Rattle.page_words.specs.Seat.{SeatView, TellsWordAt}
 use Rattle.page_words.proofs.Owning.{same_table, within_table, finds}
 use Rattle.page_words.proofs.ViewFacts.{word_is}
 use Rattle.page_words.proofs.words.Words.set_bits_at.Goals as goal
@@ -18,5 +18,5 @@ fetch_or-requires g c = (
 
 pub returns-clause-word : goal.returns-clause-word
 returns-clause-word g c =
-    subst (λ (s : SeatView). IsWordAt s c.args.at c.fetch_or.result) c.seat.view_is
+    subst (λ (s : SeatView). TellsWordAt s c.args.at c.fetch_or.result) c.seat.view_is
     (word_is (seat_view c.seat.inside.seat.table_id c.seat.inside.seat.me.0) c.args.at c.fetch_or.result c.fetch_or.ensures.2.told)
