@@ -5,7 +5,7 @@ use mathlib.Core.Logic.{◌⊎◌}
 use Rattle.gc_graph.specs.State.{ObjectType}
 use Rattle.marker_core.specs.declared.states.Body.{Body}
 use Rattle.pair_notes.specs.declared.notes.Note.{Note}
-use Rattle.pair_notes.specs.BodyGraph.{HasPair}
+use Rattle.pair_notes.specs.BodyGraph.{BodyHasPair}
 use Rattle.mark_worklist.specs.Refusals.{TellsRefused}
 use Rattle.mark_worklist.specs.Told.{told_same}
 use Rattle.pair_notes.specs.Notes.{NotesState, NotesGrow, group_at, refusals_in, IsNotedIn}
@@ -15,7 +15,7 @@ pub record GroupsGrow (types : List ObjectType) (bodies : List Body) (old new : 
   pub many : length new ≡ length old
   pub own : group_at new 0 ≡ first
   pub kept : (note : Note) → IsNotedIn old note → IsNotedIn new note
-  pub pairs : (note : Note) → IsNotedIn new note → IsNotedIn old note ⊎ HasPair types bodies note.holder note.word
+  pub pairs : (note : Note) → IsNotedIn new note → IsNotedIn old note ⊎ BodyHasPair types bodies note.holder note.word
   pub overflow : ((i : ℕ) → i < length new → (group_at new i).overflow ≡ false) → (i : ℕ) → i < length old → (group_at old i).overflow ≡ false
   pub told : (i : ℕ) → TellsRefused (refusals_in (group_at old i)) (refusals_in (group_at new i))
 
@@ -34,7 +34,7 @@ first_grows types bodies (f ∷ groups) g own grow = record {
   kept note (zero, low, there) = (zero, low, grow.kept note there)
   kept note (suc i, low, there) = (suc i, low, there)
 
-  pairs : (note : Note) → IsNotedIn (g ∷ groups) note → IsNotedIn (f ∷ groups) note ⊎ HasPair types bodies note.holder note.word
+  pairs : (note : Note) → IsNotedIn (g ∷ groups) note → IsNotedIn (f ∷ groups) note ⊎ BodyHasPair types bodies note.holder note.word
   pairs note (zero, low, there) = elim (grow.pairs note there) [ inl before ↦ inl (zero, low, before) | inr pair ↦ inr pair ]
   pairs note (suc i, low, there) = inl (suc i, low, there)
 

@@ -11,7 +11,7 @@ use Rattle.marker_core.specs.declared.states.Body.{Body}
 use Rattle.pair_notes.specs.declared.notes.Note.{Note}
 use Rattle.marker_core.specs.declared.states.Part.TheVariants.{Read}
 use Rattle.page_words.specs.Seat.{SeatView}
-use Rattle.pair_notes.specs.BodyGraph.{HasPair, pair_offsets}
+use Rattle.pair_notes.specs.BodyGraph.{BodyHasPair, pair_offsets}
 use Rattle.pair_notes.specs.InHand.{IsAt}
 use Rattle.pair_notes.specs.Notes.{NotesState, NotesGrow, refusals_in, note_of, noted, overflowed}
 use Rattle.ephemerons.specs.Traces.{FollowPairs, note_from}
@@ -47,14 +47,14 @@ pub record Asked (types : List ObjectType) (bodies : List Body) (old new : Notes
   pub there : new.overflow ≡ false → Contains new.notes (note_of holder word)
   pub follow : FollowPairs old new ((holder, word) ∷ [])
 
-was_noted : (types : List ObjectType) (bodies : List Body) (old : NotesState) (holder word : ℕ) → HasPair types bodies holder word
+was_noted : (types : List ObjectType) (bodies : List Body) (old : NotesState) (holder word : ℕ) → BodyHasPair types bodies holder word
     → Asked types bodies old (noted old holder word) holder word
 was_noted types bodies old holder word pair = record {
   grow = record {
     kept = λ note h. Contains-append_left old.notes (note_of holder word ∷ []) note h;
     pairs = λ note h. elim (Contains-push_cases old.notes (note_of holder word) note h) [
       | inl before ↦ inl before
-      | inr here ↦ inr (subst (λ (n : Note). HasPair types bodies n.holder n.word) here pair)
+      | inr here ↦ inr (subst (λ (n : Note). BodyHasPair types bodies n.holder n.word) here pair)
     ];
     overflow = λ h. h;
     told = told_same (refusals_in old);
@@ -82,7 +82,7 @@ was_refused types bodies old holder word fits = record {
 }
 
 asked : (types : List ObjectType) (bodies : List Body) (old new : NotesState) (holder word : ℕ) (done : Bool) → (done ≡ true → new ≡ noted old holder word)
-    → (done ≡ false → new ≡ overflowed old) → old.refused ≤ last_count → HasPair types bodies holder word → Asked types bodies old new holder word
+    → (done ≡ false → new ≡ overflowed old) → old.refused ≤ last_count → BodyHasPair types bodies holder word → Asked types bodies old new holder word
 asked types bodies old new holder word done made refused fits pair = elim (cases_Bool done) [
   | inl so ↦ subst (λ (s : NotesState). Asked types bodies old s holder word) (sym (made so)) (was_noted types bodies old holder word pair)
   | inr not_so ↦ subst (λ (s : NotesState). Asked types bodies old s holder word) (sym (refused not_so)) (was_refused types bodies old holder word fits)

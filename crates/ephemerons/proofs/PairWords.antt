@@ -9,14 +9,14 @@ use Rattle.type_table.specs.Types.{declared_kinds, offsets_of_kind}
 use Rattle.marker_core.specs.Bodies.{IsReference, holds}
 use Rattle.marker_core.specs.declared.states.Body.{Body}
 use Rattle.page_words.specs.Seat.{SeatView, IsView}
-use Rattle.pair_notes.specs.BodyGraph.{AreReferences, HasType, HasPair, pair_offsets, word_at}
+use Rattle.pair_notes.specs.BodyGraph.{AreReferences, HasType, BodyHasPair, pair_offsets, word_at}
 use Rattle.pair_notes.specs.Notes.{note_of}
 use Rattle.ephemerons.specs.Fixpoint.{IsSettled}
 use Rattle.pair_notes.specs.Fields.{field_at_offset}
 use Rattle.pair_notes.specs.BodyLeads.{pair_within_closed}
 
 pub key_reference : (types : List ObjectType) (bodies : List Body) (holder word key : ℕ) → AreReferences types bodies
-    → (has : HasPair types bodies holder word) → key ≡ word_at has.0 word → IsReference bodies key
+    → (has : BodyHasPair types bodies holder word) → key ≡ word_at has.0 word → IsReference bodies key
 key_reference types bodies holder word key refers has is = subst (IsReference bodies) (sym is) (refers.keys has.0 word has.1 has.3)
 
 -- a reference to what is marked names a body
@@ -28,7 +28,7 @@ marked_key v w told reference named null so = elim reference [
 ]
 
 pub told_pair : (types : List ObjectType) (bodies : List Body) (place ty k : ℕ) (told : List ℕ) → HasType bodies place ty
-    → told ≡ offsets_of_kind Pair (declared_kinds types ty) → k < length told → HasPair types bodies place (get_or told k 0)
+    → told ≡ offsets_of_kind Pair (declared_kinds types ty) → k < length told → BodyHasPair types bodies place (get_or told k 0)
 told_pair types bodies place ty k told has is low = (
   has.0,
   has.1,
@@ -45,7 +45,7 @@ value_may v b offset k q view on there pair marked key key_marked value =
     (marking.marked_in k key_marked)
 
 -- a pair is settled where its value is marked whenever holder and key are
-pub pair_settled : (types : List ObjectType) (v : SeatView) (holder word : ℕ) → HasPair types v.bodies holder word
+pub pair_settled : (types : List ObjectType) (v : SeatView) (holder word : ℕ) → BodyHasPair types v.bodies holder word
     → ((b : Body) (k w : ℕ) → Contains v.bodies b → b.place ≡ holder → word_at b word ≡ k + 1 → word_at b (word + 1) ≡ w + 1 → holds v.marked holder ≡ true
     → holds v.marked k ≡ true → holds v.marked w ≡ true) → IsSettled types v (note_of holder word)
 pair_settled types v holder word has value =

@@ -17,7 +17,7 @@ use Rattle.mark_worklist.specs.declared.marking.Marking.{Marking}
 use Rattle.marker_core.specs.Bodies.{holds, IsPlace}
 use Rattle.page_words.specs.Seat.{SeatView, IsAlone, IsView, is_grey_at}
 use Rattle.pair_notes.specs.declared.notes.Note.{Note}
-use Rattle.pair_notes.specs.BodyGraph.{HasPair}
+use Rattle.pair_notes.specs.BodyGraph.{BodyHasPair}
 use Rattle.pair_notes.specs.Notes.{NotesState, IsNotedIn, IsNote, group_at, note_of, refusals_in}
 use Rattle.pair_notes.specs.InHand.{OnlyLooks}
 use Rattle.ephemerons.specs.Traces.{Traces, note_from}
@@ -223,7 +223,7 @@ module _ (types : List ObjectType) (v u w : SeatView) (m n : Marking) (x y : Not
           | inr new ↦ elim (r.notes.pairs note there) [
             | inl old ↦ inl old
             | inr pair ↦ inr (
-              subst (λ bs. HasPair types bs note.holder note.word) (sym bodies_are) pair,
+              subst (λ bs. BodyHasPair types bs note.holder note.word) (sym bodies_are) pair,
               own_traced note.holder (noted_of_this note new),
             )
           ]

@@ -9,7 +9,7 @@ use Rattle.mark_worklist.specs.declared.marking.Marking.{Marking}
 use Rattle.marker_core.specs.Bodies.{holds, word_in}
 use Rattle.page_words.specs.Seat.{SeatView, IsAlone, IsView}
 use Rattle.pair_notes.specs.declared.notes.Note.{Note}
-use Rattle.pair_notes.specs.BodyGraph.{HasPair}
+use Rattle.pair_notes.specs.BodyGraph.{BodyHasPair}
 use Rattle.pair_notes.specs.Notes.{NotesState, HasPairsNoted, IsNotedIn, note_of}
 use Rattle.ephemerons.specs.UnderWay.{IsReadyToEnd, IsUnderWay}
 use Rattle.ephemerons.specs.Fixpoint.{IsAccounted, IsUnrefused}
@@ -60,7 +60,7 @@ module _ (v : SeatView) (m : Marking) (x : NotesState) (view : IsView v) (h : Is
     noted = λ note there.
         elim (h.noted note (in_the_group note there)) [
           | inl itself ↦ inl (itself, view.marked_are_bodies note.holder (objects note (in_the_group note there) itself))
-          | inr pair ↦ inr (subst (λ (ts : List ObjectType). HasPair ts v.bodies note.holder note.word) known pair)
+          | inr pair ↦ inr (subst (λ (ts : List ObjectType). BodyHasPair ts v.bodies note.holder note.word) known pair)
         ];
     holders = λ note there.
         elim (h.holders note (in_the_group note there)) [

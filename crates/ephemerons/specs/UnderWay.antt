@@ -5,14 +5,14 @@ use Rattle.mark_worklist.specs.declared.marking.Marking.{Marking}
 use Rattle.marker_core.specs.Bodies.{holds}
 use Rattle.page_words.specs.Seat.{SeatView, IsAlone, IsStill}
 use Rattle.pair_notes.specs.declared.notes.Note.{Note}
-use Rattle.pair_notes.specs.BodyGraph.{HasPair}
+use Rattle.pair_notes.specs.BodyGraph.{BodyHasPair}
 use Rattle.pair_notes.specs.Notes.{NotesState, IsNote, IsNotedIn, note_of}
 use Rattle.ephemerons.specs.Traces.{note_from}
 use Rattle.ephemerons.specs.Fixpoint.{IsAccounted, IsUnrefused}
 
 -- the note is of a pair of an object that is traced
 abbrev pub IsOfTraced : List ObjectType → SeatView → Note → Type 0
-IsOfTraced types v note = HasPair types v.bodies note.holder note.word × (holds v.traced note.holder ≡ true)
+IsOfTraced types v note = BodyHasPair types v.bodies note.holder note.word × (holds v.traced note.holder ≡ true)
 
 -- what is grey is listed, unless a push was refused
 abbrev pub ListsGrey : SeatView → Marking → Type 0
@@ -32,7 +32,7 @@ pub record IsUnderWay (v : SeatView) (marking : Marking) (notes : NotesState) : 
       marking.overflow ≡ false → notes.overflow ≡ false → (p : ℕ) → holds v.marked p ≡ true → holds v.traced p ≡ false
       → Contains marking.list.items p ⊎ Contains notes.notes (note_of p 0)
   pub unshared : marking.list.shares ≡ [] → ListsGrey v marking
-  pub noted : (note : Note) → Contains notes.notes note → (note.word ≡ 0) ⊎ HasPair v.types v.bodies note.holder note.word
+  pub noted : (note : Note) → Contains notes.notes note → (note.word ≡ 0) ⊎ BodyHasPair v.types v.bodies note.holder note.word
   pub holders : (note : Note) → Contains notes.notes note → (note.word ≡ 0) ⊎ (holds v.traced note.holder ≡ true)
   pub recorded : notes.overflow ≡ false → (pair : ℕ × ℕ) → Contains v.noted pair → Contains notes.notes (note_from pair)
 

@@ -7,7 +7,7 @@ use Rattle.mark_worklist.specs.declared.marking.Marking.{Marking}
 use Rattle.marker_core.specs.Bodies.{holds}
 use Rattle.page_words.specs.Seat.{SeatView, IsStill}
 use Rattle.pair_notes.specs.declared.notes.Note.{Note}
-use Rattle.pair_notes.specs.BodyGraph.{HasPair}
+use Rattle.pair_notes.specs.BodyGraph.{BodyHasPair}
 use Rattle.pair_notes.specs.Notes.{NotesState}
 use Rattle.ephemerons.specs.UnderWay.{IsUnderWay, ListsGrey}
 use Rattle.ephemerons.specs.Fixpoint.{ListsMarks, Mode, mode_of}
@@ -34,11 +34,11 @@ grey_marked u v m n marks grey = λ fine p marked white. elim (marks.fresh fine 
 -- ---- marking that is under way
 
 pub pair_same : (u v : SeatView) (note : Note) → v.types ≡ u.types → v.bodies ≡ u.bodies
-    → (note.word ≡ 0) ⊎ HasPair u.types u.bodies note.holder note.word → (note.word ≡ 0) ⊎ HasPair v.types v.bodies note.holder note.word
+    → (note.word ≡ 0) ⊎ BodyHasPair u.types u.bodies note.holder note.word → (note.word ≡ 0) ⊎ BodyHasPair v.types v.bodies note.holder note.word
 pair_same u v note types bodies is = elim is [
   | inl itself ↦ inl itself
-  | inr pair ↦ inr (subst (λ (ts : List ObjectType). HasPair ts v.bodies note.holder note.word) (sym types)
-      (subst (λ bs. HasPair u.types bs note.holder note.word) (sym bodies) pair))
+  | inr pair ↦ inr (subst (λ (ts : List ObjectType). BodyHasPair ts v.bodies note.holder note.word) (sym types)
+      (subst (λ bs. BodyHasPair u.types bs note.holder note.word) (sym bodies) pair))
 ]
 
 -- the holder is traced yet where more is traced

@@ -15,7 +15,7 @@ ghost use Rattle.pair_notes.specs.Marking.{heap_and_marks};
 ghost use Rattle.pair_notes.specs.InHand.{MayMark};
 ghost use Rattle.ephemerons.specs.LookedAt.{LooksOnlyAt};
 ghost use Rattle.ephemerons.specs.Fixpoint.{ListsMarks, IsListed, weight_of};
-ghost use Rattle.pair_notes.specs.BodyGraph.{HasWord};
+ghost use Rattle.pair_notes.specs.BodyGraph.{BodyHasWord};
 ghost use Rattle.ephemerons.specs.Fixpoint.{IsStillHeld, with_held};
 
 use mark_worklist::Marking;
@@ -69,7 +69,7 @@ pub(crate) fn word_of<B: Bodywords>(
     offset: u32,
 ) -> u64
     requires heap { seat.old.heap ≡ B.heap words.now }
-    requires field { HasWord seat.old.bodies holder offset }
+    requires field { BodyHasWord seat.old.bodies holder offset }
     ensures word { (b : Body) → Contains seat.old.bodies b → b.place ≡ holder
         → result ≡ word_at b offset }
     ensures view { seat.new ≡ seat.old }

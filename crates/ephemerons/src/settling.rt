@@ -3,7 +3,7 @@
 ghost use Rattle.std.specs.Prelude.{◌≡◌, ℕ, ◌<◌, true, false, Contains, None, length};
 ghost use Rattle.std.specs.Prelude.{slice_index_or};
 ghost use Rattle.marker_core.specs.Bodies.{IsPlace, holds};
-ghost use Rattle.pair_notes.specs.BodyGraph.{HasPair};
+ghost use Rattle.pair_notes.specs.BodyGraph.{BodyHasPair};
 ghost use Rattle.pair_notes.specs.declared.notes.Note.{Note};
 ghost use Rattle.pair_notes.specs.Notes.{IsNote, IsNotedIn, group_at, note_at, note_of};
 ghost use Rattle.ephemerons.specs.Fixpoint.{IsGround, IsSettled, Looks, Works, stage};
@@ -220,7 +220,7 @@ pub(crate) fn settle_pair<B: Bodywords>(
 ) -> bool
     requires heap { seat.old.heap ≡ B.heap space.now }
     requires ground { IsGround types.now (stage seat.old marking.old groups.now traced) }
-    requires pair { HasPair types.now seat.old.bodies holder word }
+    requires pair { BodyHasPair types.now seat.old.bodies holder word }
     ensures ground { IsGround types.now (stage seat.new marking.new groups.now traced) }
     ensures looks { Looks types.now None
         (stage seat.old marking.old groups.now traced)

@@ -13,7 +13,7 @@ ghost use Rattle.pair_notes.specs.Marking.{GrowsWithin, HasStrongMarked, HasTarg
 ghost use Rattle.pair_notes.specs.InHand.{IsTracing, IsPast, IsAt, IsAtTarget};
 ghost use Rattle.pair_notes.specs.InHand.{hand_over, traced_in, moved_on, BeginsWith};
 ghost use Rattle.ephemerons.specs.Fixpoint.{ListsMarks, with_held};
-ghost use Rattle.pair_notes.specs.BodyGraph.{HasWord};
+ghost use Rattle.pair_notes.specs.BodyGraph.{BodyHasWord};
 
 use crate::marks::{list_held, mark_named};
 use mark_worklist::Marking;
@@ -131,7 +131,7 @@ pub(crate) fn trace_target<B: Bodywords>(
 ) -> Option<u32>
     requires heap { seat.old.heap ≡ B.heap words.now }
     requires tracing { IsTracing seat.old }
-    requires field { HasWord seat.old.bodies holder offset }
+    requires field { BodyHasWord seat.old.bodies holder offset }
     requires hand { IsAtTarget seat.old (holder + offset) }
     ensures marks { (m : Marking) → ListsMarks seat.old m seat.new (with_held result m) }
     ensures named { HasTargetMarked seat.new holder offset }

@@ -2,7 +2,7 @@
 
 ghost use Rattle.std.specs.Prelude.{◌≡◌, ℕ, ◌<◌, true, false, [], Contains, None, Some};
 ghost use Rattle.marker_core.specs.Bodies.{IsPlace};
-ghost use Rattle.pair_notes.specs.BodyGraph.{HasPair};
+ghost use Rattle.pair_notes.specs.BodyGraph.{BodyHasPair};
 ghost use Rattle.pair_notes.specs.Marking.{IsOver};
 ghost use Rattle.pair_notes.specs.Notes.{note_of};
 ghost use Rattle.ephemerons.specs.Fixpoint.{IsGround, IsSettled, IsSettledAt, Looks};
@@ -135,7 +135,7 @@ fn settle_pairs<B: Bodywords>(
     ensures looks { Looks types.now None
         (stage seat.old marking.old groups.now traced)
         (stage seat.new marking.new groups.now traced) result }
-    ensures settled { result ≡ false → (offset : ℕ) → HasPair types.now seat.new.bodies a offset
+    ensures settled { result ≡ false → (offset : ℕ) → BodyHasPair types.now seat.new.bodies a offset
         → IsSettled types.now seat.new (note_of a offset) }
 {
     seat.bodies_lie_apart();

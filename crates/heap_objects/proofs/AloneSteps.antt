@@ -12,7 +12,7 @@ use Rattle.marker_core.specs.declared.states.Body.{Body}
 use Rattle.page_words.specs.Seat.{SeatView}
 use Rattle.mark_worklist.specs.Shares.{ShareState}
 use Rattle.marker_crew.specs.Note.{Note}
-use Rattle.marker_crew.specs.BodyGraph.{HasPair}
+use Rattle.marker_crew.specs.BodyGraph.{BodyHasPair}
 use Rattle.marker_crew.specs.Fields.{field_at_offset}
 use Rattle.atomic_pause.specs.Fixpoint.{Mode, mode_of}
 use Rattle.marker_crew.specs.Marking.{MarksOn, traced_count}
@@ -44,7 +44,7 @@ grey_stepped grey m x some =
 -- ---- the step
 
 -- the offset of a pair is none of the header's
-pair_behind : (types : List ObjectType) (bodies : List Body) (p offset : ℕ) → HasPair types bodies p offset → offset ≡ 0 → ⊥
+pair_behind : (types : List ObjectType) (bodies : List Body) (p offset : ℕ) → BodyHasPair types bodies p offset → offset ≡ 0 → ⊥
 pair_behind types bodies p offset (b, there, at, pair) none = (let field = field_at_offset Pair (declared_kinds types b.ty) offset pair in omega (arith, field.2, none))
 
 empty_of : (shares : List ShareState) → length shares ≡ 0 → shares ≡ []

@@ -22,7 +22,7 @@ use Rattle.mark_worklist.specs.Families.{at, nobody, IsFresh}
 use Rattle.mark_worklist.specs.Joining.{IsTakenOrLeft, put_by, taken_by, refused_by}
 use Rattle.mark_worklist.specs.Shares.{ShareState, put_of, taken_by_share, times_listed, last_count}
 use Rattle.marker_crew.specs.Note.{Note}
-use Rattle.marker_crew.specs.BodyGraph.{HasPair, PlacesDiffer}
+use Rattle.marker_crew.specs.BodyGraph.{BodyHasPair, PlacesDiffer}
 use Rattle.marker_crew.specs.BodyLeads.{role_of_offset}
 use Rattle.marker_crew.specs.Fields.{field_at_offset}
 use Rattle.atomic_pause.specs.Fixpoint.{IsUnrefused}
@@ -379,7 +379,7 @@ module _ (v : SeatView) (g : GreyView) (ends : List Ending) (w : SeatView) (n : 
   noted : (note : Note) → IsNotedIn groups note → IsNote w.types w.bodies note
   noted note (zero, low, there) = elim (way.noted note there) [
     | inl itself ↦ inl (itself, place_of_put note.holder (taken_is_put note.holder (taken_by_own note.holder (out.lone note there itself).0)))
-    | inr pair ↦ inr (subst (λ (x : SeatView). HasPair x.types x.bodies note.holder note.word) (sym is) pair)
+    | inr pair ↦ inr (subst (λ (x : SeatView). BodyHasPair x.types x.bodies note.holder note.word) (sym is) pair)
   ]
   noted note (suc k, low, there) =
       let below : k < length ends = omega (arith, low, length-map ends (λ (e : Ending). e.notes)) in

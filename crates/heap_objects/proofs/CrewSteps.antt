@@ -22,7 +22,7 @@ use Rattle.mark_worklist.specs.Joining.{IsSameList}
 use Rattle.mark_worklist.specs.Kept.{list-then}
 use Rattle.mark_worklist.specs.Shares.{ShareState, IsSameShare, put_of, taken_by_share, last_count}
 use Rattle.marker_crew.specs.Note.{Note}
-use Rattle.marker_crew.specs.BodyGraph.{HasPair, PlacesDiffer}
+use Rattle.marker_crew.specs.BodyGraph.{BodyHasPair, PlacesDiffer}
 use Rattle.marker_crew.specs.BodyLeads.{offset_told}
 use Rattle.marker_crew.specs.Marking.{traced_count}
 use Rattle.marker_crew.specs.Notes.{NotesState, note_of, refusals_in}
@@ -44,7 +44,7 @@ module _ (w : SeatView) (view : IsView w) (on : w.on ≡ true) (p offset : ℕ) 
   pair : IsPairAt (kind_lists w.types) w.bodies p offset
   pair = (view.marking on).noted_are_pairs p offset there
 
-  pub noted_pair : HasPair w.types w.bodies p offset
+  pub noted_pair : BodyHasPair w.types w.bodies p offset
   noted_pair =
       let at : offset - 2 + 2 ≡ offset = omega (arith, pair.past_serial) in
       (pair.body, pair.there, pair.place, subst (Contains (offsets_of_kind Pair (declared_kinds w.types pair.body.ty))) at (offset_told w.types pair.body (offset - 2) Pair refl pair.key))
@@ -169,11 +169,11 @@ module _ (v : SeatView) (g : GreyView) (m : MarkerSeatView) (k : ShareState) (o 
         ]
       ]
 
-  noted : (note : Note) → Contains o.notes note → (note.word ≡ 0) ⊎ HasPair w.types w.bodies note.holder note.word
+  noted : (note : Note) → Contains o.notes note → (note.word ≡ 0) ⊎ BodyHasPair w.types w.bodies note.holder note.word
   noted note there = elim (works.notes note there) [
     | inl before ↦ elim (way.noted note before) [
       | inl itself ↦ inl itself
-      | inr pair ↦ inr (subst (λ (x : SeatView). HasPair x.types x.bodies note.holder note.word) (sym seat) pair)
+      | inr pair ↦ inr (subst (λ (x : SeatView). BodyHasPair x.types x.bodies note.holder note.word) (sym seat) pair)
     ]
     | inr new ↦ elim new [
       | inl pair ↦ inr (noted_pair w view is_on note.holder note.word (noted_now (note.holder, note.word) pair.0))

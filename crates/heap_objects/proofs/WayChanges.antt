@@ -23,7 +23,7 @@ use Rattle.page_words.specs.Roles.{kind_lists}
 use Rattle.page_words.specs.Seat.{SeatView, IsStill, rewritten, marked_at}
 use Rattle.page_words.specs.WrittenBodies.{by_word, same_place}
 use Rattle.page_space.specs.Occupying.{Occupies}
-use Rattle.marker_crew.specs.BodyGraph.{HasPair, pair_offsets}
+use Rattle.marker_crew.specs.BodyGraph.{BodyHasPair, pair_offsets}
 use Rattle.marker_crew.specs.Notes.{NotesState}
 use Rattle.atomic_pause.specs.UnderWay.{IsUnderWay, ListsGrey}
 use Rattle.atomic_pause.specs.UnderWayStays.{holder_yet}
@@ -50,7 +50,7 @@ pub record Leaves (old new : SeatView) : Type 0 where
   pub lent : new.lent ≡ old.lent
   pub heap : new.heap ≡ old.heap
   pub types : new.types ≡ old.types
-  pub pairs : (p offset : ℕ) → HasPair old.types old.bodies p offset → HasPair new.types new.bodies p offset
+  pub pairs : (p offset : ℕ) → BodyHasPair old.types old.bodies p offset → BodyHasPair new.types new.bodies p offset
   pub marked : (p : ℕ) → holds old.marked p ≡ true → holds new.marked p ≡ true
   pub traced : new.traced ≡ old.traced
   pub noted : new.noted ≡ old.noted

@@ -19,7 +19,7 @@ use Rattle.marker_core.specs.declared.states.Body.{Body}
 use Rattle.page_words.specs.Bodies.{kind_in}
 use Rattle.page_words.specs.Seat.{SeatView}
 use Rattle.page_space.specs.Space.{IsHeaderOf}
-use Rattle.member_fields.specs.Words.{HasWord}
+use Rattle.member_fields.specs.Words.{HasFieldWord}
 use Rattle.heap_objects.specs.declared.field.Field.{Field}
 use Rattle.atomic_pause.specs.Nodes.{place_of, body_of, bodies_of, AreOfValid}
 use Rattle.heap_objects.specs.Fields.{field_of, IsFieldOf, FindsField}
@@ -107,7 +107,7 @@ word_low setup nodes n f field valid is =
 
 -- the holder has the field's word, and it is of the field's kind
 pub has_word : (setup : Setup) (nodes : List Node) (v : SeatView) (n f : ℕ) (field : Field) (is_so : Kind → Bool) → FieldsStandApart → AreOfValid setup nodes
-    → v.bodies ≡ bodies_of nodes → v.types ≡ setup.types → IsFieldOf nodes n f field → is_so field.kind ≡ true → HasWord is_so v field.holder field.word
+    → v.bodies ≡ bodies_of nodes → v.types ≡ setup.types → IsFieldOf nodes n f field → is_so field.kind ≡ true → HasFieldWord is_so v field.holder field.word
 has_word setup nodes v n f field is_so law valid held known is so =
     let node : Node = node_at nodes n in
     let kinds : List Kind = table.declared_kinds setup.types node.object.ty in
@@ -120,7 +120,7 @@ has_word setup nodes v n f field is_so law valid held known is so =
     let b : Body = body_of (place_of nodes) n node in
     let kind : kind_in v.types b (word - 2) ≡ kind_of_field node.object f =
     ap (λ types. kind_in types b (word - 2)) known ∙ law.kind kinds f word in_table ∙ ap (λ (ks : List Kind). get_or ks f Plain) (sym typed.kinds_are) in
-    let at : HasWord is_so v (place_of nodes n) word = record {
+    let at : HasFieldWord is_so v (place_of nodes n) word = record {
       body = b;
       there = node_body nodes v n held (live_is_there nodes n is.live);
       place = refl;
@@ -128,4 +128,4 @@ has_word setup nodes v n f field is_so law valid held known is so =
       last = omega (arith, word_low setup nodes n f field valid is);
       kind = ap is_so (kind ∙ sym (ap (λ (x : Field). x.kind) is.is)) ∙ so;
     } in
-    subst (λ (x : Field). HasWord is_so v x.holder x.word) (sym is.is) at
+    subst (λ (x : Field). HasFieldWord is_so v x.holder x.word) (sym is.is) at

@@ -8,7 +8,7 @@ ghost use Rattle.gc_graph.specs.Fields.{is_reference};
 ghost use Rattle.type_table.specs.Types.{is_kind};
 ghost use Rattle.page_words.specs.Seat.{rewritten};
 ghost use Rattle.page_space.specs.Space.{IsSeatOf};
-ghost use Rattle.member_fields.specs.Words.{HasWord};
+ghost use Rattle.member_fields.specs.Words.{HasFieldWord};
 ghost use Rattle.member_fields.specs.Barrier.{IsReadyToStore, MayKeep, MayKeepNamed, HasBarrier};
 ghost use Rattle.heap_objects.specs.Fields.{allows, TakesWord, kept_word};
 
@@ -99,7 +99,7 @@ pub fn write_field(
     requires heap { IsSeatOf space.now seat.old }
     requires on { marking.old.on ≡ seat.old.on }
     requires ready { IsReadyToStore seat.old }
-    requires field { HasWord (is_kind field.kind) seat.old field.holder field.word }
+    requires field { HasFieldWord (is_kind field.kind) seat.old field.holder field.word }
     requires word { TakesWord field.kind seat.old.bodies w }
     requires holder { MayKeep seat.old field.holder }
     requires kept { is_reference field.kind ≡ true → MayKeepNamed seat.old w }

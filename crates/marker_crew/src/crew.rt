@@ -4,7 +4,7 @@ ghost use Rattle.std.specs.Prelude.{◌≡◌, ◌≤◌, ◌+◌, ◌==◌, not
 ghost use Rattle.std.specs.Prelude.{vec_capacity, [], None};
 ghost use Rattle.std.specs.Arc.{arc_value};
 ghost use Rattle.std.specs.Borrow.{sem};
-ghost use Rattle.pair_notes.specs.Notes.{no_notes, cleared};
+ghost use Rattle.pair_notes.specs.Notes.{no_notes, notes_cleared};
 ghost use Rattle.marker_crew.specs.Crews.{IsCrew, started_with, HasJoined};
 ghost use Rattle.marker_crew.specs.Lending.{LendsOwn, LendsNotes};
 
@@ -173,7 +173,7 @@ impl Crew {
 
     /// Clears each group of notes that is here.
     pub fn clear_notes(&mut self)
-        ensures { self.new ≡ record self.old { notes = map cleared self.old.notes } }
+        ensures { self.new ≡ record self.old { notes = map notes_cleared self.old.notes } }
     {
         for i in 0..self.notes.len() {
             self.notes[i].clear();

@@ -8,7 +8,7 @@ use Rattle.marker_core.specs.Bodies.{IsPlace, holds, role_in, word_in, with_word
 use Rattle.page_words.specs.Roles.{kind_lists}
 use Rattle.page_words.specs.Seat.{Heap, SeatView, PairsAreWhole, empty_view, begun, marked_at, stored}
 use Rattle.page_space.specs.Occupying.{Occupies, new_body}
-use Rattle.pair_notes.specs.BodyGraph.{HasType, HasPair}
+use Rattle.pair_notes.specs.BodyGraph.{HasType, BodyHasPair}
 use Rattle.pair_notes.specs.declared.notes.Note.{Note}
 use Rattle.gc_graph.specs.declared.kind.Kind.TheVariants.{Pair}
 use Rattle.type_table.specs.Types.{declared_kinds, offsets_of_kind}
@@ -93,7 +93,7 @@ place_either k w s p at = elim (either_body k w s at.0 at.1) [
 ]
 
 -- each has one pair
-pub pair_either : (k w s : ℕ) (note : Note) → HasPair pair_then_strong (two_bodies k w s) note.holder note.word → IsEitherPair note
+pub pair_either : (k w s : ℕ) (note : Note) → BodyHasPair pair_then_strong (two_bodies k w s) note.holder note.word → IsEitherPair note
 pair_either k w s note has =
     let ty : has.0.ty ≡ 0 = only_type k w s note.holder has.0.ty (has.0, has.1, has.2, refl) in
     let among : Contains (2 ∷ []) note.word = subst (λ t. Contains (offsets_of_kind Pair (declared_kinds pair_then_strong t)) note.word) ty has.3 in
@@ -102,7 +102,7 @@ pair_either k w s note has =
       word = elim (Contains-cons_cases 2 [] note.word among) [ inl here ↦ sym here | inr none ↦ absurd (omega (arith, none.1)) ];
     }
 
-pub either_pair : (k w s : ℕ) (note : Note) → IsEitherPair note → HasPair pair_then_strong (two_bodies k w s) note.holder note.word
+pub either_pair : (k w s : ℕ) (note : Note) → IsEitherPair note → BodyHasPair pair_then_strong (two_bodies k w s) note.holder note.word
 either_pair k w s note is =
     let at : IsPlace (two_bodies k w s) note.holder = either_place k w s note.holder is.holder in
     let ty : at.0.ty ≡ 0 = only_type k w s note.holder at.0.ty (at.0, at.1, at.2, refl) in

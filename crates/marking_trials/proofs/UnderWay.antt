@@ -13,7 +13,7 @@ use Rattle.marker_core.specs.Bodies.{IsPlace, IsReference, holds}
 use Rattle.page_words.specs.Bodies.{kind_in}
 use Rattle.page_words.specs.Seat.{SeatView, marked_at}
 use Rattle.page_space.specs.Space.{SpaceView}
-use Rattle.member_fields.specs.Words.{HasWord, HasPair, with_word_in, written}
+use Rattle.member_fields.specs.Words.{HasFieldWord, HasPair, with_word_in, written}
 use Rattle.member_fields.specs.Barrier.{IsReadyToStore, MayKeepNamed, HasBarrier, asks_for_mark}
 use Rattle.marking_trials.specs.ThreeObjects.{AreThree, IsUnderWay, strong_then_pair}
 
@@ -22,7 +22,7 @@ kinds_told : (space : SpaceView) (v : SeatView) (told : Bool) → IsUnderWay spa
 kinds_told space v told is b there = ap (λ (types : List ObjectType). declared_kinds types b.ty) is.types ∙ ap (declared_kinds strong_then_pair) (is.bodies b there).0
 
 pub strong_field : (space : SpaceView) (v : SeatView) (told : Bool) (holder : ℕ) → IsUnderWay space v told → IsPlace v.bodies holder
-    → HasWord (is_kind Strong) v holder 2
+    → HasFieldWord (is_kind Strong) v holder 2
 strong_field space v told holder is at =
     let five = is.bodies at.0 at.1 in
     record {

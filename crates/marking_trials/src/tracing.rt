@@ -6,7 +6,7 @@ ghost use Rattle.mark_worklist.specs.Lists.{no_items};
 ghost use Rattle.marker_core.specs.Bodies.{IsPlace};
 ghost use Rattle.page_words.specs.Seat.{IsAlone};
 ghost use Rattle.page_space.specs.Space.{IsSeatOf};
-ghost use Rattle.pair_notes.specs.BodyGraph.{HasPair};
+ghost use Rattle.pair_notes.specs.BodyGraph.{BodyHasPair};
 ghost use Rattle.pair_notes.specs.Notes.{no_notes};
 ghost use Rattle.pair_notes.specs.declared.notes.Note.{Note};
 ghost use Rattle.marking_trials.specs.SmallHeap.{pair_then_strong, IsEither, IsSmall};
@@ -149,7 +149,7 @@ fn closed(t: Trial) -> (u32, bool)
     requires whole { t.marking.list.whole ≡ true }
     requires listed { (p : ℕ) → Contains t.marking.list.items p → IsPlace t.heap.seat.bodies p }
     requires noted { (note : Note) → Contains t.notes.notes note
-        → HasPair pair_then_strong t.heap.seat.bodies note.holder note.word }
+        → BodyHasPair pair_then_strong t.heap.seat.bodies note.holder note.word }
     requires other { IsPlace t.heap.seat.bodies 256 }
 {
     let Trial {

@@ -5,7 +5,7 @@ use Rattle.marker_core.specs.declared.states.Body.{Body}
 use Rattle.marker_core.specs.Bodies.{IsFieldWord, IsPlace}
 use Rattle.page_words.specs.Bodies.{kind_in}
 use Rattle.page_words.specs.Seat.{SeatView, TellsWordAt, IsView}
-use Rattle.member_fields.specs.Words.{HasWord, HasWordOfSomeKind, IsWordIn}
+use Rattle.member_fields.specs.Words.{HasFieldWord, HasWordOfSomeKind, IsWordIn}
 use Rattle.page_words.specs.BodyPlaces.{whole_body, same_body, no_place_within}
 
 pub word_read : (v : SeatView) (holder word w : ℕ) → IsView v → HasWordOfSomeKind v holder word → TellsWordAt v (holder + word) w → IsWordIn v holder word w
@@ -26,7 +26,7 @@ field_word v holder word has =
     let b : Body = has.1.body in (b, has.1.there, omega (arith, has.1.place, has.1.first), omega (arith, has.1.place, has.1.last))
 
 pub one_kind : (v : SeatView) → IsView v → (is_so is_other : Kind → Bool) (holder word : ℕ)
-    → ((kind : Kind) → is_so kind ≡ true → is_other kind ≡ true → ⊥) → HasWord is_so v holder word → HasWord is_other v holder word → ⊥
+    → ((kind : Kind) → is_so kind ≡ true → is_other kind ≡ true → ⊥) → HasFieldWord is_so v holder word → HasFieldWord is_other v holder word → ⊥
 one_kind v is is_so is_other holder word apart so other =
     let same : other.body ≡ so.body = same_body v other.body so.body is other.there so.there (other.place ∙ sym so.place) in
     apart (kind_in v.types so.body (word - 2)) so.kind (ap (λ (b : Body). is_other (kind_in v.types b (word - 2))) (sym same) ∙ other.kind)

@@ -11,7 +11,7 @@ use Rattle.marker_core.specs.declared.states.Body.{Body}
 use Rattle.page_words.specs.Bodies.{IsKeyWord, kind_in}
 use Rattle.page_words.specs.Roles.{kind_of_role}
 use Rattle.page_words.specs.Seat.{SeatView, IsView, stored}
-use Rattle.member_fields.specs.Words.{HasWord, HasWordOfSomeKind, HasPair, IsWordIn, with_word_in, written}
+use Rattle.member_fields.specs.Words.{HasFieldWord, HasWordOfSomeKind, HasPair, IsWordIn, with_word_in, written}
 use Rattle.page_words.specs.BodyPlaces.{whole_body, same_body}
 use Rattle.member_fields.proofs.Roles.{kind_told, key_role, value_role}
 use Rattle.member_fields.proofs.Writes.{by_place, rewritten_word}
@@ -24,7 +24,7 @@ pub kinds_of_pairs : FieldsStandApart → (v : SeatView) → KindsOfPairs v
 kinds_of_pairs law v b i key =
     (kind_told v b i ∙ ap kind_of_role (key_role law v b i key), kind_told v b (i + 1) ∙ ap kind_of_role (value_role law v b i key))
 
-pub key_word : (v : SeatView) (holder word : ℕ) → KindsOfPairs v → HasPair v holder word → HasWord (is_kind Pair) v holder word
+pub key_word : (v : SeatView) (holder word : ℕ) → KindsOfPairs v → HasPair v holder word → HasFieldWord (is_kind Pair) v holder word
 key_word v holder word kinds has = record {
   body = has.body;
   there = has.there;
@@ -34,7 +34,7 @@ key_word v holder word kinds has = record {
   kind = ap (is_kind Pair) (kinds has.body (word - 2) has.key).0;
 }
 
-pub value_word : (v : SeatView) (holder word : ℕ) → KindsOfPairs v → HasPair v holder word → HasWord (is_kind Pair) v holder (word + 1)
+pub value_word : (v : SeatView) (holder word : ℕ) → KindsOfPairs v → HasPair v holder word → HasFieldWord (is_kind Pair) v holder (word + 1)
 value_word v holder word kinds has =
     let next : word - 2 + 1 ≡ word + 1 - 2 = omega (arith, has.first) in
     record {

@@ -12,7 +12,7 @@ use Rattle.marker_core.specs.Bodies.{fields_at, end_of, has_field, role_in, keep
 use Rattle.marker_core.specs.SeatSteps.{keeps_in, settled}
 use Rattle.page_words.specs.Roles.{kind_lists}
 use Rattle.page_words.specs.Seat.{SeatView, IsView, stored, rewritten, marked_at, with_bodies}
-use Rattle.member_fields.specs.Words.{HasWord, HasWordOfSomeKind, HasPair, written}
+use Rattle.member_fields.specs.Words.{HasFieldWord, HasWordOfSomeKind, HasPair, written}
 use Rattle.member_fields.specs.Barrier.{target_marked}
 use Rattle.member_fields.proofs.Roles.{kind_told, keeps_none, key_role}
 use Rattle.member_fields.proofs.Writes.{rewritten_word}
@@ -44,7 +44,7 @@ unkept v b a is there low high none =
     true≢false (sym parts.1 ∙ ap (λ (d : Body). keeps (role_in (kind_lists v.types) d (a - fields_at d))) same ∙ none))
 
 pub lone_written : (v : SeatView) (is_so : Kind → Bool) (holder word w : ℕ) → IsView v → (is_so Strong ≡ true → ⊥) → (is_so Pair ≡ true → ⊥)
-    → HasWord is_so v holder word → stored v (holder + word) w ≡ written v holder word w
+    → HasFieldWord is_so v holder word → stored v (holder + word) w ≡ written v holder word w
 lone_written v is_so holder word w is strong pair has =
     let b : Body = has.body in
     let at : holder + word - fields_at b ≡ word - 2 = omega (arith, has.place, has.first) in

@@ -8,7 +8,7 @@ use Rattle.marker_core.specs.Bodies.{end_of, with_word}
 use Rattle.marker_core.specs.declared.states.Body.{Body}
 use Rattle.page_words.specs.Bodies.{kind_in}
 use Rattle.page_words.specs.Seat.{SeatView, IsView, rewritten, with_bodies}
-use Rattle.member_fields.specs.Words.{HasWord, HasWordOfSomeKind, IsWordIn, with_word_in, written}
+use Rattle.member_fields.specs.Words.{HasFieldWord, HasWordOfSomeKind, IsWordIn, with_word_in, written}
 use Rattle.page_words.specs.BodyPlaces.{whole_body, same_body}
 
 each_same : {X Y : Type 0} (f g : X → Y) (xs : List X) → ((x : X) → Contains xs x → f x ≡ g x) → map f xs ≡ map g xs
@@ -66,8 +66,8 @@ by_place P holder word w b on off =
     (λ is. on (eqb-true b.place holder is))
     (λ other. off (λ is. both_ways (eqb b.place holder) other (eq-eqb b.place holder is)))
 
-pub kind_kept : (v : SeatView) (is_so : Kind → Bool) (holder word place offset w : ℕ) → HasWord is_so v holder word
-    → HasWord is_so (written v place offset w) holder word
+pub kind_kept : (v : SeatView) (is_so : Kind → Bool) (holder word place offset w : ℕ) → HasFieldWord is_so v holder word
+    → HasFieldWord is_so (written v place offset w) holder word
 kind_kept v is_so holder word place offset w has =
     let b : Body = has.body in
     record {

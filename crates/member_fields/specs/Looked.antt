@@ -5,10 +5,10 @@ use Rattle.std.specs.List.{Contains}
 use Rattle.gc_graph.specs.declared.kind.Kind.{Kind}
 use Rattle.page_words.specs.Bodies.{IsKeyWord, kind_in}
 use Rattle.page_words.specs.Seat.{SeatView, OnlyLooked}
-use Rattle.member_fields.specs.Words.{HasWord, HasPair, IsWordIn}
+use Rattle.member_fields.specs.Words.{HasFieldWord, HasPair, IsWordIn}
 
 -- an object's field word of a kind that passes the test is still one where headers were looked at
-pub word_looked : (is_so : Kind → Bool) (v w : SeatView) (holder word : ℕ) → OnlyLooked v w → HasWord is_so v holder word → HasWord is_so w holder word
+pub word_looked : (is_so : Kind → Bool) (v w : SeatView) (holder word : ℕ) → OnlyLooked v w → HasFieldWord is_so v holder word → HasFieldWord is_so w holder word
 word_looked is_so v w holder word same has = record {
   body = has.body;
   there = subst (λ bs. Contains bs has.body) (ap (λ (x : SeatView). x.bodies) (sym same)) has.there;

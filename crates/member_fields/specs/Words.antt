@@ -8,7 +8,7 @@ use Rattle.page_words.specs.Bodies.{IsKeyWord, kind_in}
 use Rattle.page_words.specs.Seat.{SeatView, with_bodies}
 
 -- the object at `holder` has a field word at this offset, and the kind of the word passes the test
-pub record HasWord (is_so : Kind → Bool) (v : SeatView) (holder word : ℕ) : Type 0 where
+pub record HasFieldWord (is_so : Kind → Bool) (v : SeatView) (holder word : ℕ) : Type 0 where
   pub body : Body
   pub there : Contains v.bodies body
   pub place : body.place ≡ holder
@@ -18,11 +18,11 @@ pub record HasWord (is_so : Kind → Bool) (v : SeatView) (holder word : ℕ) : 
 
 -- the same, whatever its kind
 abbrev pub HasWordOfSomeKind : SeatView → ℕ → ℕ → Type 0
-HasWordOfSomeKind v holder word = (is_so : Kind → Bool) × HasWord is_so v holder word
+HasWordOfSomeKind v holder word = (is_so : Kind → Bool) × HasFieldWord is_so v holder word
 
 -- the same, of a kind that isn't that of pairs
 abbrev pub HasLoneWord : SeatView → ℕ → ℕ → Type 0
-HasLoneWord v holder word = (is_so : Kind → Bool) × (is_so Pair ≡ true → ⊥) × HasWord is_so v holder word
+HasLoneWord v holder word = (is_so : Kind → Bool) × (is_so Pair ≡ true → ⊥) × HasFieldWord is_so v holder word
 
 -- the object at `holder` has a pair whose key is the word at this offset; its value is the next word
 pub record HasPair (v : SeatView) (holder word : ℕ) : Type 0 where

@@ -6,7 +6,7 @@ ghost use Rattle.gc_graph.specs.Fields.{is_reference};
 ghost use Rattle.type_table.specs.Types.{is_kind};
 ghost use Rattle.marker_core.specs.Bodies.{IsReference};
 ghost use Rattle.page_words.specs.Seat.{rewritten};
-ghost use Rattle.member_fields.specs.Words.{HasWord, IsWordIn, written};
+ghost use Rattle.member_fields.specs.Words.{HasFieldWord, IsWordIn, written};
 ghost use Rattle.member_fields.specs.Barrier.{IsReadyToStore, MayKeep, MayKeepNamed, HasBarrier};
 
 use crate::{barrier, words};
@@ -16,7 +16,7 @@ use page_words::{Bodywords, MutatorSeat};
 /// What a strong or weak field refers to: 0, or a reference (`object_headers::place_in`).
 pub fn get<B: Bodywords>(space: &B, seat: &mut MutatorSeat, holder: u32, word: u32) -> u64
     requires heap { seat.old.heap ≡ B.heap space.now }
-    requires field { HasWord is_reference seat.old holder word }
+    requires field { HasFieldWord is_reference seat.old holder word }
     ensures word { IsWordIn seat.old holder word result }
     ensures view { seat.new ≡ seat.old }
 {
@@ -36,7 +36,7 @@ pub fn set<B: Bodywords>(
     requires heap { seat.old.heap ≡ B.heap space.now }
     requires on { marking.old.on ≡ seat.old.on }
     requires ready { IsReadyToStore seat.old }
-    requires field { HasWord (is_kind Strong) seat.old holder word }
+    requires field { HasFieldWord (is_kind Strong) seat.old holder word }
     requires holder { MayKeep seat.old holder }
     requires target { IsReference seat.old.bodies target }
     requires kept { MayKeepNamed seat.old target }
@@ -59,7 +59,7 @@ pub fn set<B: Bodywords>(
 pub fn clear<B: Bodywords>(space: &B, seat: &mut MutatorSeat, holder: u32, word: u32)
     requires heap { seat.old.heap ≡ B.heap space.now }
     requires ready { IsReadyToStore seat.old }
-    requires field { HasWord (is_kind Strong) seat.old holder word }
+    requires field { HasFieldWord (is_kind Strong) seat.old holder word }
     requires holder { MayKeep seat.old holder }
     ensures word { seat.new ≡ written seat.old holder word 0 }
     ensures address { seat.new ≡ rewritten seat.old (holder + word) 0 }

@@ -4,7 +4,7 @@
 ghost use Rattle.std.specs.Prelude.{◌≡◌, ◌+◌};
 ghost use Rattle.gc_graph.specs.Fields.{is_plain};
 ghost use Rattle.page_words.specs.Seat.{rewritten};
-ghost use Rattle.member_fields.specs.Words.{HasWord, IsWordIn, written};
+ghost use Rattle.member_fields.specs.Words.{HasFieldWord, IsWordIn, written};
 ghost use Rattle.member_fields.specs.Barrier.{IsReadyToStore, MayKeep};
 
 use crate::words;
@@ -13,7 +13,7 @@ use page_words::{Bodywords, MutatorSeat};
 /// The number in a plain word.
 pub fn get_word<B: Bodywords>(space: &B, seat: &mut MutatorSeat, holder: u32, word: u32) -> u64
     requires heap { seat.old.heap ≡ B.heap space.now }
-    requires field { HasWord is_plain seat.old holder word }
+    requires field { HasFieldWord is_plain seat.old holder word }
     ensures word { IsWordIn seat.old holder word result }
     ensures view { seat.new ≡ seat.old }
 {
@@ -24,7 +24,7 @@ pub fn get_word<B: Bodywords>(space: &B, seat: &mut MutatorSeat, holder: u32, wo
 pub fn put_word<B: Bodywords>(space: &B, seat: &mut MutatorSeat, holder: u32, word: u32, n: u64)
     requires heap { seat.old.heap ≡ B.heap space.now }
     requires ready { IsReadyToStore seat.old }
-    requires field { HasWord is_plain seat.old holder word }
+    requires field { HasFieldWord is_plain seat.old holder word }
     requires holder { MayKeep seat.old holder }
     ensures word { seat.new ≡ written seat.old holder word n }
     ensures address { seat.new ≡ rewritten seat.old (holder + word) n }

@@ -4,7 +4,7 @@ ghost use Rattle.std.specs.Prelude.{◌≡◌, ◌+◌};
 ghost use Rattle.gc_graph.specs.Fields.{is_weak};
 ghost use Rattle.marker_core.specs.Bodies.{IsReference};
 ghost use Rattle.page_words.specs.Seat.{rewritten};
-ghost use Rattle.member_fields.specs.Words.{HasWord, written};
+ghost use Rattle.member_fields.specs.Words.{HasFieldWord, written};
 ghost use Rattle.member_fields.specs.Barrier.{IsReadyToStore, MayKeep, MayKeepNamed};
 
 use crate::words;
@@ -21,7 +21,7 @@ pub fn set_weak<B: Bodywords>(
 )
     requires heap { seat.old.heap ≡ B.heap space.now }
     requires ready { IsReadyToStore seat.old }
-    requires field { HasWord is_weak seat.old holder word }
+    requires field { HasFieldWord is_weak seat.old holder word }
     requires holder { MayKeep seat.old holder }
     requires target { IsReference seat.old.bodies target }
     requires kept { MayKeepNamed seat.old target }

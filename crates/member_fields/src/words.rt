@@ -6,7 +6,7 @@ ghost use Rattle.object_headers.specs.Offsets.{first_field};
 ghost use Rattle.marker_core.specs.Bodies.{IsReference};
 ghost use Rattle.page_words.specs.Bodies.{IsPlainWordAt};
 ghost use Rattle.page_words.specs.Seat.{stored, rewritten};
-ghost use Rattle.member_fields.specs.Words.{HasWord, HasWordOfSomeKind, HasLoneWord, HasPair};
+ghost use Rattle.member_fields.specs.Words.{HasFieldWord, HasWordOfSomeKind, HasLoneWord, HasPair};
 ghost use Rattle.member_fields.specs.Words.{IsWordIn, written};
 ghost use Rattle.member_fields.specs.Barrier.{IsReadyToStore, MayKeep, MayKeepNamed};
 ghost use Rattle.member_fields.specs.Keys.{TakesKey};
@@ -19,10 +19,10 @@ use type_table::fields_stand_apart;
 pub fn words_keep_their_kind(seat: &MutatorSeat)
     ensures one { (is_so is_other : Kind → Bool) (holder word : ℕ)
         → ((kind : Kind) → is_so kind ≡ true → is_other kind ≡ true → ⊥)
-        → HasWord is_so seat.now holder word → HasWord is_other seat.now holder word → ⊥ }
+        → HasFieldWord is_so seat.now holder word → HasFieldWord is_other seat.now holder word → ⊥ }
     ensures kept { (is_so : Kind → Bool) (holder word place offset w : ℕ)
-        → HasWord is_so seat.now holder word
-        → HasWord is_so (written seat.now place offset w) holder word }
+        → HasFieldWord is_so seat.now holder word
+        → HasFieldWord is_so (written seat.now place offset w) holder word }
     ensures pairs { (holder word place offset w : ℕ) → HasPair seat.now holder word
         → HasPair (written seat.now place offset w) holder word }
 {

@@ -52,8 +52,8 @@ HasStrong types bodies place offset =
     (b : Body) × Contains bodies b × (b.place ≡ place) × Contains (strong_offsets types b) offset
 
 -- there is a body at the place, and it has a pair at the offset
-abbrev pub HasPair : List ObjectType → List Body → ℕ → ℕ → Type 0
-HasPair types bodies place offset =
+abbrev pub BodyHasPair : List ObjectType → List Body → ℕ → ℕ → Type 0
+BodyHasPair types bodies place offset =
     (b : Body) × Contains bodies b × (b.place ≡ place) × Contains (pair_offsets types b) offset
 
 -- no type has a pair
@@ -61,8 +61,8 @@ abbrev pub HaveNoPairs : List ObjectType → Type 0
 HaveNoPairs types = (ty : ℕ) → ty < length types → offsets_of_kind Pair (declared_kinds types ty) ≡ []
 
 -- there is a body at the place, and it has a field word at the offset
-abbrev pub HasWord : List Body → ℕ → ℕ → Type 0
-HasWord bodies place offset =
+abbrev pub BodyHasWord : List Body → ℕ → ℕ → Type 0
+BodyHasWord bodies place offset =
     (b : Body) × Contains bodies b × (b.place ≡ place) × (first_field ≤ offset) × (offset - first_field < length b.fields)
 
 -- ---- the object that a body stands for

@@ -14,9 +14,9 @@ use Rattle.page_words.specs.Hands.{part_found}
 use Rattle.page_words.specs.BodyPlaces.{whole_body, same_body, no_place_within}
 use Rattle.page_words.specs.Roles.{kinds_fit, word_count_is}
 use Rattle.page_words.specs.Seat.{SeatView, IsView, TellsWordAt}
-use Rattle.pair_notes.specs.BodyGraph.{HasStrong, HasPair, strong_offsets, pair_offsets, word_at}
+use Rattle.pair_notes.specs.BodyGraph.{HasStrong, BodyHasPair, strong_offsets, pair_offsets, word_at}
 use Rattle.pair_notes.specs.InHand.{IsAt, IsAtTarget}
-use Rattle.pair_notes.specs.BodyGraph.{HasWord}
+use Rattle.pair_notes.specs.BodyGraph.{BodyHasWord}
 use Rattle.pair_notes.specs.BodyLeads.{role_of_offset}
 use Rattle.pair_notes.specs.Fields.{field_at_offset, field_below}
 
@@ -32,13 +32,13 @@ field_there v b kind offset view here there =
     (omega (arith, field.2), omega (arith, field.2, field_below kind kinds field.0 field.1, whole.room, whole.fields, words, fit))
 
 -- the address of a field word is one of the heap
-pub word_below : (v : SeatView) (holder offset : ℕ) → IsView v → HasWord v.bodies holder offset → holder + offset < v.count
+pub word_below : (v : SeatView) (holder offset : ℕ) → IsView v → BodyHasWord v.bodies holder offset → holder + offset < v.count
 word_below v holder offset view has =
     let whole = whole_body v view has.0 has.1 in
     omega (arith, has.2, has.3, has.4, whole.fields, whole.inside)
 
 -- a field word is no header
-pub word_is_no_place : (v : SeatView) (holder offset : ℕ) → IsView v → HasWord v.bodies holder offset → IsPlace v.bodies (holder + offset) → ⊥
+pub word_is_no_place : (v : SeatView) (holder offset : ℕ) → IsView v → BodyHasWord v.bodies holder offset → IsPlace v.bodies (holder + offset) → ⊥
 word_is_no_place v holder offset view has at =
     let b : Body = has.0 in
     let whole = whole_body v view b has.1 in
@@ -46,26 +46,26 @@ word_is_no_place v holder offset view has at =
     (subst (λ p. IsPlace v.bodies (p + offset)) (sym has.2) at)
 
 -- a field word is read as it is
-pub read_word : (v : SeatView) (holder offset w : ℕ) → IsView v → HasWord v.bodies holder offset → TellsWordAt v (holder + offset) w → (b : Body)
+pub read_word : (v : SeatView) (holder offset w : ℕ) → IsView v → BodyHasWord v.bodies holder offset → TellsWordAt v (holder + offset) w → (b : Body)
     → Contains v.bodies b → b.place ≡ holder → w ≡ word_at b offset
 read_word v holder offset w view has word b there at =
     let one : has.0 ≡ b = same_body v has.0 b view has.1 there (has.2 ∙ sym at) in
     word.field has.0 (offset - 2) has.1 has.4 (omega (arith, has.2, has.3)) ∙ ap (λ (x : Body). word_at x offset) one
 
 -- the word of a strong field is one of its object's field words
-pub strong_there : (v : SeatView) (holder offset : ℕ) → IsView v → HasStrong v.types v.bodies holder offset → HasWord v.bodies holder offset
-strong_there v holder offset view has =
+pub strong_word_there : (v : SeatView) (holder offset : ℕ) → IsView v → HasStrong v.types v.bodies holder offset → BodyHasWord v.bodies holder offset
+strong_word_there v holder offset view has =
     let there = field_there v has.0 Strong offset view has.1 has.3 in
     (has.0, has.1, has.2, there.0, omega (arith, there.0, there.1))
 
 -- the key of a pair is one of its object's field words
-pub key_there : (v : SeatView) (holder offset : ℕ) → IsView v → HasPair v.types v.bodies holder offset → HasWord v.bodies holder offset
+pub key_there : (v : SeatView) (holder offset : ℕ) → IsView v → BodyHasPair v.types v.bodies holder offset → BodyHasWord v.bodies holder offset
 key_there v holder offset view has =
     let there = field_there v has.0 Pair offset view has.1 has.3 in
     (has.0, has.1, has.2, there.0, omega (arith, there.0, there.1))
 
 -- the value of a pair, the word after its key, is one of its object's field words
-pub value_there : (v : SeatView) (holder offset : ℕ) → IsView v → HasPair v.types v.bodies holder offset → HasWord v.bodies holder (offset + 1)
+pub value_there : (v : SeatView) (holder offset : ℕ) → IsView v → BodyHasPair v.types v.bodies holder offset → BodyHasWord v.bodies holder (offset + 1)
 value_there v holder offset view has =
     let there = field_there v has.0 Pair offset view has.1 has.3 in
     (has.0, has.1, has.2, omega (arith, there.0), omega (arith, there.0, there.1))
@@ -77,7 +77,7 @@ pub strong_in_hand : (v : SeatView) (holder offset : ℕ) (part : Part) → IsAt
 strong_in_hand v holder offset part at = (at.body, at.there, at.place_is, at.among)
 
 -- an object in hand at a pair has a pair at that offset
-pub pair_in_hand : (v : SeatView) (holder offset : ℕ) (part : Part) → IsAt pair_offsets v holder offset part → HasPair v.types v.bodies holder offset
+pub pair_in_hand : (v : SeatView) (holder offset : ℕ) (part : Part) → IsAt pair_offsets v holder offset part → BodyHasPair v.types v.bodies holder offset
 pair_in_hand v holder offset part at = (at.body, at.there, at.place_is, at.among)
 
 -- a strong word's target is marked

@@ -6,7 +6,7 @@ use Rattle.mark_worklist.specs.Refusals.{Refusals, TellsRefused}
 use Rattle.page_words.specs.MachineBodies.{IsPlace, holds}
 use Rattle.page_words.specs.Body.{Body}
 use Rattle.page_words.specs.Seat.{SeatView}
-use Rattle.pair_notes.specs.BodyGraph.{HasPair, pair_offsets, word_at}
+use Rattle.pair_notes.specs.BodyGraph.{BodyHasPair, pair_offsets, word_at}
 use Rattle.pair_notes.specs.declared.notes.Note.{Note}
 
 -- the notes, in the order in which they were made, whether one was refused since they were cleared, and how many were since
@@ -21,8 +21,8 @@ abbrev pub no_notes : NotesState
 no_notes = record { notes = []; overflow = false; refused = 0 }
 
 -- no notes, and that one was refused is forgotten; how many were is not
-abbrev pub cleared : NotesState → NotesState
-cleared s = record s { notes = []; overflow = false }
+abbrev pub notes_cleared : NotesState → NotesState
+notes_cleared s = record s { notes = []; overflow = false }
 
 -- whether notes were refused, and how many
 abbrev pub refusals_in : NotesState → Refusals
@@ -55,12 +55,12 @@ IsNotedIn groups note = (i : ℕ) × (i < length groups) × Contains (group_at g
 -- the note is for an object, or for one of its pairs
 abbrev pub IsNote : List ObjectType → List Body → Note → Type 0
 IsNote types bodies note =
-    ((note.word ≡ 0) × IsPlace bodies note.holder) ⊎ HasPair types bodies note.holder note.word
+    ((note.word ≡ 0) × IsPlace bodies note.holder) ⊎ BodyHasPair types bodies note.holder note.word
 
 -- the notes of old are kept, new ones are for pairs, and that one was refused comes to be told where the count of these rose
 pub record NotesGrow (types : List ObjectType) (bodies : List Body) (old new : NotesState) : Type 0 where
   pub kept : (note : Note) → Contains old.notes note → Contains new.notes note
-  pub pairs : (note : Note) → Contains new.notes note → Contains old.notes note ⊎ HasPair types bodies note.holder note.word
+  pub pairs : (note : Note) → Contains new.notes note → Contains old.notes note ⊎ BodyHasPair types bodies note.holder note.word
   pub overflow : new.overflow ≡ false → old.overflow ≡ false
   pub told : TellsRefused (refusals_in old) (refusals_in new)
 

@@ -4,7 +4,7 @@ ghost use Rattle.std.specs.Prelude.{◌≡◌, true, false, ◌<◌, ◌≤◌, 
 ghost use Rattle.mark_worklist.specs.Shares.{last_count};
 ghost use Rattle.page_words.specs.Seat.{OnlyLooked};
 ghost use Rattle.pair_notes.specs.declared.notes.Note.{Note};
-ghost use Rattle.pair_notes.specs.Notes.{IsNote, no_notes, note_at, noted, overflowed, cleared};
+ghost use Rattle.pair_notes.specs.Notes.{IsNote, no_notes, note_at, noted, overflowed, notes_cleared};
 
 use crate::index::Index;
 use page_words::{Bodywords, MutatorSeat, Reading};
@@ -80,7 +80,7 @@ impl Pairs {
     /// Forgets all notes, and that one was refused. The room stays, and so does the count of refused
     /// notes.
     pub fn clear(&mut self)
-        ensures { self.new ≡ cleared self.old }
+        ensures { self.new ≡ notes_cleared self.old }
     {
         self.notes.clear();
         self.overflow = false;

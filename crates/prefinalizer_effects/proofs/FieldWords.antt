@@ -20,7 +20,7 @@ use Rattle.page_words.specs.BodyPlaces.{whole_body}
 use Rattle.page_words.specs.Roles.{kind_lists}
 use Rattle.page_words.specs.Seat.{SeatView, IsView}
 use Rattle.nodes_in_words.specs.Space.{IsHeaderOf}
-use Rattle.member_fields.specs.Words.{HasWord, HasPair, IsWordIn}
+use Rattle.member_fields.specs.Words.{HasFieldWord, HasPair, IsWordIn}
 use Rattle.prefinalizer_effects.specs.Acting.{IsTypedBody, BodiesAreTyped, AreLinked, extra_in, body_field_count}
 use Rattle.prefinalizer_effects.specs.Places.{IsFound, HasFoundWord, HasFoundPair}
 
@@ -69,7 +69,7 @@ word_below kinds extra field low = elim (cases_lt field (length kinds)) [
 ]
 
 pub found_word : (v : SeatView) (place field : ℕ) (b : Body) (t : Kind × ℕ) (is_so : Kind → Bool) → FieldsStandApart → Contains v.bodies b → b.place ≡ place
-    → IsTypedBody v.types b → IsFieldAt (declared_kinds v.types b.ty) (extra_in v.types b) field t → is_so t.0 ≡ true → HasWord is_so v place t.1
+    → IsTypedBody v.types b → IsFieldAt (declared_kinds v.types b.ty) (extra_in v.types b) field t → is_so t.0 ≡ true → HasFieldWord is_so v place t.1
 found_word v place field b t is_so law there at typed found so =
     let kinds : List Kind = declared_kinds v.types b.ty in
     let kind : kind_in v.types b (t.1 - 2) ≡ kind_of kinds field =
@@ -153,7 +153,7 @@ is_strong Weak is = absurd (true≢false (sym is))
 is_strong Pair is = absurd (true≢false (sym is))
 is_strong Plain is = absurd (true≢false (sym is))
 
-pub link_reference : (v : SeatView) (place word w : ℕ) → AreLinked v → HasWord (is_kind Strong) v place word → IsWordIn v place word w → IsReference v.bodies w
+pub link_reference : (v : SeatView) (place word w : ℕ) → AreLinked v → HasFieldWord (is_kind Strong) v place word → IsWordIn v place word w → IsReference v.bodies w
 link_reference v place word w links has is =
     subst (IsReference v.bodies) (sym (is has.body has.there has.place))
     (links has.body (word - 2) has.there (is_strong (kind_in v.types has.body (word - 2)) has.kind))

@@ -12,7 +12,7 @@ use Rattle.type_table.specs.Layouts.{kinds_of_words}
 use Rattle.weak_clearing.specs.declared.weak_handles.WeakHandles.{WeakHandles}
 use Rattle.weak_clearing.specs.declared.weak_handles.WeakHandles.TheVariants.{Fields, Pairs}
 use Rattle.weak_clearing.specs.Clearing.{names_unmarked, clear_words, clear_pair_words}
-use Rattle.weak_clearing.specs.Steps.{kind_of_handles, cleared_at, clear_words_of}
+use Rattle.weak_clearing.specs.Steps.{kind_of_handles, words_cleared_at, clear_words_of}
 use Rattle.weak_clearing.proofs.Lists.{at_seam, set_seam, append_one, length_push}
 use Rattle.type_table.specs.KindLaws.{same_kind}
 
@@ -21,12 +21,12 @@ use Rattle.type_table.specs.KindLaws.{same_kind}
 -- those at these offsets
 abbrev pub clear_listed : WeakHandles → List ℕ → List ℕ → List ℕ → List ℕ
 clear_listed handles marked [] words = words
-clear_listed handles marked (offset ∷ offsets) words = clear_listed handles marked offsets (cleared_at handles marked (offset - 2) words)
+clear_listed handles marked (offset ∷ offsets) words = clear_listed handles marked offsets (words_cleared_at handles marked (offset - 2) words)
 
 pub clear_listed-push : (handles : WeakHandles) (marked offsets : List ℕ) (offset : ℕ) (words : List ℕ)
-    → clear_listed handles marked (offsets ++ offset ∷ []) words ≡ cleared_at handles marked (offset - 2) (clear_listed handles marked offsets words)
+    → clear_listed handles marked (offsets ++ offset ∷ []) words ≡ words_cleared_at handles marked (offset - 2) (clear_listed handles marked offsets words)
 clear_listed-push handles marked [] offset words = refl
-clear_listed-push handles marked (o ∷ offsets) offset words = clear_listed-push handles marked offsets offset (cleared_at handles marked (o - 2) words)
+clear_listed-push handles marked (o ∷ offsets) offset words = clear_listed-push handles marked offsets offset (words_cleared_at handles marked (o - 2) words)
 
 -- ---- the offsets of the fields of a kind, when the first of all fields begins at this one
 
@@ -65,10 +65,10 @@ module _ (marked before : List ℕ) where
   one_nulled false w words = refl
 
   weak_here : (w : ℕ) (words : List ℕ)
-      → cleared_at Fields marked (2 + length before - 2) (before ++ w ∷ words) ≡ before ++ cond (names_unmarked marked w) 0 w ∷ words
+      → words_cleared_at Fields marked (2 + length before - 2) (before ++ w ∷ words) ≡ before ++ cond (names_unmarked marked w) 0 w ∷ words
   weak_here w words =
       let at : 2 + length before - 2 ≡ length before = omega arith in
-      ap (λ i. cleared_at Fields marked i (before ++ w ∷ words)) at
+      ap (λ i. words_cleared_at Fields marked i (before ++ w ∷ words)) at
       ∙ ap (λ x. cond (names_unmarked marked x) (set (before ++ w ∷ words) (length before) 0) (before ++ w ∷ words)) (at_seam before w 0 words)
       ∙ one_nulled (names_unmarked marked w) w words
 
@@ -84,12 +84,12 @@ module _ (marked before : List ℕ) where
   both_nulled false k w words = refl
 
   pair_here : (k w : ℕ) (words : List ℕ)
-      → cleared_at Pairs marked (2 + length before - 2) (before ++ k ∷ w ∷ words)
+      → words_cleared_at Pairs marked (2 + length before - 2) (before ++ k ∷ w ∷ words)
       ≡ before ++ cond (names_unmarked marked k) 0 k ∷ cond (names_unmarked marked k) 0 w ∷ words
   pair_here k w words =
       let all : List ℕ = before ++ k ∷ w ∷ words in
       let at : 2 + length before - 2 ≡ length before = omega arith in
-      ap (λ i. cleared_at Pairs marked i all) at
+      ap (λ i. words_cleared_at Pairs marked i all) at
       ∙ ap (λ x. cond (names_unmarked marked x) (set (set all (length before + 1) 0) (length before) 0) all) (at_seam before k 0 (w ∷ words))
       ∙ both_nulled (names_unmarked marked k) k w words
 

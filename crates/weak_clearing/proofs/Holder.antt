@@ -15,7 +15,7 @@ use Rattle.page_words.specs.Roles.{kind_lists}
 use Rattle.page_words.specs.Seat.{SeatView, IsView, OnlyLooked, with_bodies}
 use Rattle.weak_clearing.specs.declared.weak_handles.WeakHandles.{WeakHandles}
 use Rattle.weak_clearing.specs.Clearing.{HasReferencesOf, MarkedHaveReferencesOf}
-use Rattle.weak_clearing.specs.Steps.{IsMarkedOf, HasHandle, kind_of_handles, cleared_at, clear_handle_in, clear_handles, clear_words_of, handle_cleared, body_cleared}
+use Rattle.weak_clearing.specs.Steps.{IsMarkedOf, HasHandle, kind_of_handles, words_cleared_at, clear_handle_in, clear_handles, clear_words_of, handle_cleared, body_cleared}
 use Rattle.weak_clearing.proofs.Lists.{map_same, map_after, map_stays}
 use Rattle.gc_graph.specs.Members.{Contains-map}
 use Rattle.weak_clearing.proofs.HandleWords.{BeginsField, field_told, clear_listed, clear_listed-push, listed_are_cleared}
@@ -95,7 +95,7 @@ holder_handle handles v place ty told k view have (b, there, at, of, marked) is 
 one_more : (handles : WeakHandles) (marked : List ℕ) (place offset : ℕ) (offsets : List ℕ) (b : Body)
     → clear_handle_in handles marked place offset (clear_listed_at handles marked place offsets b) ≡ clear_listed_at handles marked place (offsets ++ offset ∷ []) b
 one_more handles marked place offset offsets b =
-    at_twice place (λ x. record x { fields = cleared_at handles marked (offset - 2) x.fields }) (listed_body handles marked offsets) b refl
+    at_twice place (λ x. record x { fields = words_cleared_at handles marked (offset - 2) x.fields }) (listed_body handles marked offsets) b refl
     ∙ ap (λ (fs : List ℕ). cond (eqb b.place place) (record b { fields = fs }) b) (sym (clear_listed-push handles marked offsets offset b.fields))
 
 pub one_more_cleared : (handles : WeakHandles) (v : SeatView) (place offset : ℕ) (offsets : List ℕ)

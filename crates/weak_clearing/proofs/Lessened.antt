@@ -16,7 +16,7 @@ use Rattle.page_words.specs.Seat.{SeatView, with_bodies}
 use Rattle.weak_clearing.specs.declared.weak_handles.WeakHandles.{WeakHandles}
 use Rattle.weak_clearing.specs.declared.weak_handles.WeakHandles.TheVariants.{Fields, Pairs}
 use Rattle.weak_clearing.specs.Clearing.{names_unmarked, clear_word, clear_words, clear_pair_words, HasReferencesOf, MarkedHaveReferencesOf}
-use Rattle.weak_clearing.specs.Steps.{nulled, cleared_at, clear_words_of, clear_handles}
+use Rattle.weak_clearing.specs.Steps.{nulled, words_cleared_at, clear_words_of, clear_handles}
 use Rattle.gc_graph.specs.Members.{Contains-map, Contains-map_some}
 use Rattle.weak_clearing.proofs.HandleWords.{clear_listed}
 
@@ -96,14 +96,14 @@ nulled_lessened Fields n words = null_lessened n words
 nulled_lessened Pairs n words =
     then_lessened words (set words (n + 1) 0) (set (set words (n + 1) 0) n 0) (null_lessened (n + 1) words) (null_lessened n (set words (n + 1) 0))
 
-handle_lessened : (handles : WeakHandles) (marked : List ℕ) (n : ℕ) (words : List ℕ) → AreLessened words (cleared_at handles marked n words)
+handle_lessened : (handles : WeakHandles) (marked : List ℕ) (n : ℕ) (words : List ℕ) → AreLessened words (words_cleared_at handles marked n words)
 handle_lessened handles marked n words =
     cond_both (names_unmarked marked (get_or words n 0)) (nulled handles n words) words (AreLessened words) (λ _. nulled_lessened handles n words) (λ _. same_words words)
 
 pub listed_lessened : (handles : WeakHandles) (marked offsets words : List ℕ) → AreLessened words (clear_listed handles marked offsets words)
 listed_lessened handles marked [] words = same_words words
 listed_lessened handles marked (o ∷ offsets) words =
-    let first : List ℕ = cleared_at handles marked (o - 2) words in
+    let first : List ℕ = words_cleared_at handles marked (o - 2) words in
     then_lessened words first (clear_listed handles marked offsets first) (handle_lessened handles marked (o - 2) words)
     (listed_lessened handles marked offsets first)
 

@@ -8,11 +8,11 @@ use Rattle.type_table.specs.Types.{declared_kinds, offsets_of_kind}
 use Rattle.marker_core.specs.Bodies.{IsReference, holds}
 use Rattle.marker_core.specs.declared.states.Body.{Body}
 use Rattle.page_words.specs.Seat.{SeatView, with_bodies}
-use Rattle.member_fields.specs.Words.{HasWord, HasPair, IsWordIn, with_word_in, written, pair_written}
+use Rattle.member_fields.specs.Words.{HasFieldWord, HasPair, IsWordIn, with_word_in, written, pair_written}
 use Rattle.weak_clearing.specs.declared.weak_handles.WeakHandles.{WeakHandles}
 use Rattle.weak_clearing.specs.declared.weak_handles.WeakHandles.TheVariants.{Fields, Pairs}
 use Rattle.weak_clearing.specs.Clearing.{names_unmarked}
-use Rattle.weak_clearing.specs.Steps.{HasHandle, nulled, cleared_at, clear_handle_in, handle_cleared}
+use Rattle.weak_clearing.specs.Steps.{HasHandle, nulled, words_cleared_at, clear_handle_in, handle_cleared}
 use Rattle.weak_clearing.proofs.Lists.{map_same, map_after, map_stays}
 
 -- ---- what a reference names
@@ -28,7 +28,7 @@ names_one marked (suc place) some =
 
 -- ---- a handle is a weak field's word, or a pair
 
-pub field_word : (is_so : Kind → Bool) (v : SeatView) (holder word : ℕ) → is_so Weak ≡ true → HasHandle Fields v holder word → HasWord is_so v holder word
+pub field_word : (is_so : Kind → Bool) (v : SeatView) (holder word : ℕ) → is_so Weak ≡ true → HasHandle Fields v holder word → HasFieldWord is_so v holder word
 field_word is_so v holder word passes has = record {
   body = has.body;
   there = has.there;
@@ -76,7 +76,7 @@ module _ (v : SeatView) (holder word w : ℕ) (is : IsWordIn v holder word w) wh
 
   kept : (handles : WeakHandles) (b : Body) → Contains v.bodies b → names_unmarked v.marked w ≡ false → clear_handle_in handles v.marked holder word b ≡ b
   kept handles b there named =
-      cond_both (eqb b.place holder) (record b { fields = cleared_at handles v.marked (word - 2) b.fields }) b (λ c. c ≡ b)
+      cond_both (eqb b.place holder) (record b { fields = words_cleared_at handles v.marked (word - 2) b.fields }) b (λ c. c ≡ b)
       (λ here. ap (λ t. (let x : Body = record b { fields = cond t (nulled handles (word - 2) b.fields) b.fields } in x)) (named_by false b there named here))
       (λ _. refl)
 
@@ -90,7 +90,7 @@ module _ (v : SeatView) (holder word w : ℕ) (is : IsWordIn v holder word w) wh
       → cond (eqb b.place holder) (record b { fields = nulled handles (word - 2) b.fields }) b ≡ clear_handle_in handles v.marked holder word b
   null_body handles b there named =
       let null : Body = record b { fields = nulled handles (word - 2) b.fields } in
-      let cleared : Body = record b { fields = cleared_at handles v.marked (word - 2) b.fields } in
+      let cleared : Body = record b { fields = words_cleared_at handles v.marked (word - 2) b.fields } in
       with_flag (eqb b.place holder) null cleared b
       (λ here. ap (λ t. (let x : Body = record b { fields = cond t (nulled handles (word - 2) b.fields) b.fields } in x)) (sym (named_by true b there named here))) where
         with_flag : (t : Bool) (x y z : Body) → (t ≡ true → x ≡ y) → cond t x z ≡ cond t y z

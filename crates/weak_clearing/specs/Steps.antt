@@ -42,13 +42,13 @@ nulled Fields i words = slice_set words i 0
 nulled Pairs i words = slice_set (slice_set words (i + 1) 0) i 0
 
 -- so they are, where the first one names a body that is not marked
-abbrev pub cleared_at : WeakHandles → List ℕ → ℕ → List ℕ → List ℕ
-cleared_at handles marked i words = if names_unmarked marked (slice_index words i) then nulled handles i words else words
+abbrev pub words_cleared_at : WeakHandles → List ℕ → ℕ → List ℕ → List ℕ
+words_cleared_at handles marked i words = if names_unmarked marked (slice_index words i) then nulled handles i words else words
 
 -- the body, with the handle at this offset cleared where it is the one at `holder`
 abbrev pub clear_handle_in : WeakHandles → List ℕ → ℕ → ℕ → Body → Body
 clear_handle_in handles marked holder word b =
-    if b.place == holder then record b { fields = cleared_at handles marked (word - first_field) b.fields } else b
+    if b.place == holder then record b { fields = words_cleared_at handles marked (word - first_field) b.fields } else b
 
 -- the handle at this offset of the object at `holder` was cleared
 abbrev pub handle_cleared : WeakHandles → SeatView → ℕ → ℕ → SeatView

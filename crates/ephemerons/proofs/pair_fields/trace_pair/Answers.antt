@@ -5,7 +5,7 @@ use Rattle.marker_core.specs.Bodies.{holds}
 use Rattle.marker_core.specs.declared.states.Part.TheVariants.{Read}
 use Rattle.page_words.specs.Seat.{SeatView}
 use Rattle.pair_notes.specs.Marking.{heap_and_marks}
-use Rattle.pair_notes.specs.BodyGraph.{HasWord}
+use Rattle.pair_notes.specs.BodyGraph.{BodyHasWord}
 use Rattle.ephemerons.specs.Traces.{noted_unless}
 use Rattle.ephemerons.specs.ListedMarks.{ListsMarks-then}
 use Rattle.ephemerons.specs.LookedAt.{IsLookedAt}
@@ -31,7 +31,7 @@ pub trace_target-fresh-requires-clause-field : goal.trace_target-fresh-requires-
 trace_target-fresh-requires-clause-field g c =
     let v = c.args.seat.now in
     let same : heap_and_marks c.key_is_marked.new.seat ≡ heap_and_marks v = c.key_is_marked.ensures.view ∙ c.read_key.ensures.view in
-    subst (λ bs. HasWord bs c.args.holder (c.args.offset + 1)) (sym (ap (λ (x : SeatView). x.bodies) same))
+    subst (λ bs. BodyHasWord bs c.args.holder (c.args.offset + 1)) (sym (ap (λ (x : SeatView). x.bodies) same))
     (value_there v c.args.holder c.args.offset c.bodies_lie_apart.ensures (pair_in_hand v c.args.holder c.args.offset Read c.requires.hand))
 
 pub trace_target-fresh-requires-clause-hand : goal.trace_target-fresh-requires-clause-hand

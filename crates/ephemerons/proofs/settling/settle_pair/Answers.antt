@@ -5,7 +5,7 @@ use Rattle.gc_graph.specs.State.{ObjectType}
 use Rattle.object_headers.specs.Offsets.{reference_to}
 use Rattle.marker_core.specs.Bodies.{holds}
 use Rattle.page_words.specs.Seat.{SeatView, OnlyLooked, unlooked}
-use Rattle.pair_notes.specs.BodyGraph.{HasPair, pair_offsets, word_at}
+use Rattle.pair_notes.specs.BodyGraph.{BodyHasPair, pair_offsets, word_at}
 use Rattle.pair_notes.specs.Marking.{GrowsWithin}
 use Rattle.ephemerons.specs.LookedAt.{IsLookedAt, LooksOnlyAt, LooksWithin}
 use Rattle.ephemerons.specs.LookedPlaces.{looked_nowhere, looked_once, looked_then, looked_as}
@@ -25,11 +25,11 @@ pub word_of-key-requires-clause-field : goal.word_of-key-requires-clause-field
 word_of-key-requires-clause-field g c =
     let v = c.args.seat.now in
     rw (ap (λ (u : SeatView). u.bodies) c.is_marked.ensures.view) (key_there v c.args.holder c.args.word c.bodies_lie_apart.ensures
-    (subst (λ (ts : List ObjectType). HasPair ts v.bodies c.args.holder c.args.word) (sym c.requires.ground.known) c.requires.pair))
+    (subst (λ (ts : List ObjectType). BodyHasPair ts v.bodies c.args.holder c.args.word) (sym c.requires.ground.known) c.requires.pair))
 
 pub names_marked-requires-clause-reference : goal.names_marked-requires-clause-reference
 names_marked-requires-clause-reference g c =
-    let has : HasPair c.args.types.now c.args.seat.now.bodies c.args.holder c.args.word = c.requires.pair in
+    let has : BodyHasPair c.args.types.now c.args.seat.now.bodies c.args.holder c.args.word = c.requires.pair in
     rw (c.word_of-key.ensures.view, ap (λ (u : SeatView). u.bodies) c.is_marked.ensures.view)
     (key_reference c.args.types.now c.args.seat.now.bodies c.args.holder c.args.word c.word_of-key.result c.requires.ground.references has
     (c.word_of-key.ensures.word has.0 (rw (ap (λ (u : SeatView). u.bodies) c.is_marked.ensures.view) has.1) has.2))
@@ -76,7 +76,7 @@ pub overflow_add-word : goal.overflow_add-word
 overflow_add-word g c =
     let v = c.args.seat.now in
     let there = value_there v c.args.holder c.args.word c.bodies_lie_apart.ensures
-    (subst (λ (ts : List ObjectType). HasPair ts v.bodies c.args.holder c.args.word) (sym c.requires.ground.known) c.requires.pair) in
+    (subst (λ (ts : List ObjectType). BodyHasPair ts v.bodies c.args.holder c.args.word) (sym c.requires.ground.known) c.requires.pair) in
     let low : c.args.word + 1 < 2 ^ 32 =
     omega (arith, word_below v c.args.holder (c.args.word + 1) c.bodies_lie_apart.ensures there, c.bodies_lie_apart.ensures.count) in
     search rules
@@ -86,12 +86,12 @@ word_of-value-requires-clause-field g c =
     let v = c.args.seat.now in
     rw (ap (λ (u : SeatView). u.bodies) c.names_marked.ensures.view, c.word_of-key.ensures.view, ap (λ (u : SeatView). u.bodies) c.is_marked.ensures.view)
     (value_there v c.args.holder c.args.word c.bodies_lie_apart.ensures
-    (subst (λ (ts : List ObjectType). HasPair ts v.bodies c.args.holder c.args.word) (sym c.requires.ground.known) c.requires.pair))
+    (subst (λ (ts : List ObjectType). BodyHasPair ts v.bodies c.args.holder c.args.word) (sym c.requires.ground.known) c.requires.pair))
 
 pub mark_reference-requires-clause-may : goal.mark_reference-requires-clause-may
 mark_reference-requires-clause-may g c p names =
     let v = c.args.seat.now in
-    let has : HasPair c.args.types.now v.bodies c.args.holder c.args.word = c.requires.pair in
+    let has : BodyHasPair c.args.types.now v.bodies c.args.holder c.args.word = c.requires.pair in
     let is_key : c.word_of-key.result ≡ word_at has.0 c.args.word = c.word_of-key.ensures.word has.0 (rw (ap (λ (u : SeatView). u.bodies) c.is_marked.ensures.view) has.1) has.2 in
     let is_value : c.word_of-value.result ≡ word_at has.0 (c.args.word + 1) = c.word_of-value.ensures.word has.0
     (rw (ap (λ (u : SeatView). u.bodies) c.names_marked.ensures.view, c.word_of-key.ensures.view, ap (λ (u : SeatView). u.bodies) c.is_marked.ensures.view) has.1) has.2 in
@@ -116,7 +116,7 @@ pub returns-clause-looks : goal.returns-clause-looks
 returns-clause-looks g c =
     let same : OnlyLooked c.args.seat.now c.word_of-value.new.seat = looked c.args.seat.now c.is_marked.new.seat c.word_of-key.new.seat c.names_marked.new.seat c.word_of-value.new.seat c.is_marked.ensures.view
     c.word_of-key.ensures.view c.names_marked.ensures.view c.word_of-value.ensures.view in
-    let has : HasPair c.args.types.now c.args.seat.now.bodies c.args.holder c.args.word = c.requires.pair in
+    let has : BodyHasPair c.args.types.now c.args.seat.now.bodies c.args.holder c.args.word = c.requires.pair in
     let is_key : c.word_of-key.result ≡ word_at has.0 c.args.word = c.word_of-key.ensures.word has.0 (rw (ap (λ (u : SeatView). u.bodies) c.is_marked.ensures.view) has.1) has.2 in
     let is_value : c.word_of-value.result ≡ word_at has.0 (c.args.word + 1) = c.word_of-value.ensures.word has.0
     (rw (ap (λ (u : SeatView). u.bodies) c.names_marked.ensures.view, c.word_of-key.ensures.view, ap (λ (u : SeatView). u.bodies) c.is_marked.ensures.view) has.1) has.2 in
@@ -149,7 +149,7 @@ returns-clause-settled g c told =
     ∙ ap (λ (v : SeatView). v.bodies) (looked c.args.seat.now c.is_marked.new.seat c.word_of-key.new.seat c.names_marked.new.seat c.word_of-value.new.seat c.is_marked.ensures.view
     c.word_of-key.ensures.view c.names_marked.ensures.view c.word_of-value.ensures.view) in
     pair_settled c.args.types.now c.mark_reference.new.seat c.args.holder c.args.word
-    (subst (λ bs. HasPair c.args.types.now bs c.args.holder c.args.word) (sym bodies) c.requires.pair)
+    (subst (λ bs. BodyHasPair c.args.types.now bs c.args.holder c.args.word) (sym bodies) c.requires.pair)
     (λ b k w there at key value holder_marked key_marked.
     (let before : Contains c.args.seat.now.bodies b = subst (λ bs. Contains bs b) bodies there in
     let is_value : c.word_of-value.result ≡ word_at b (c.args.word + 1) = c.word_of-value.ensures.word b
@@ -159,7 +159,7 @@ returns-clause-settled g c told =
 -- ---- what was looked at
 
 -- the holder, and then the key
-both_looked : (types : List ObjectType) (v first key second w : SeatView) (holder offset word : ℕ) → (has : HasPair types v.bodies holder offset)
+both_looked : (types : List ObjectType) (v first key second w : SeatView) (holder offset word : ℕ) → (has : BodyHasPair types v.bodies holder offset)
     → first.looked ≡ v.looked ++ holder ∷ [] → key ≡ first → LooksOnlyAt (λ p. word ≡ reference_to p) key second → word ≡ word_at has.0 offset
     → w.looked ≡ second.looked → w.bodies ≡ v.bodies → holds w.marked holder ≡ true → LooksWithin types v w
 both_looked types v first key second w holder offset word has one same two is later bodies marked =
@@ -190,7 +190,7 @@ returns-then-not-names_marked-clause-looked g c here =
     let v = c.args.seat.now in
     let w = c.names_marked.new.seat in
     let same : OnlyLooked v w = c.names_marked.ensures.view ∙ ap unlooked c.word_of-key.ensures.view ∙ c.is_marked.ensures.view in
-    let has : HasPair c.args.types.now v.bodies c.args.holder c.args.word = c.requires.pair in
+    let has : BodyHasPair c.args.types.now v.bodies c.args.holder c.args.word = c.requires.pair in
     let is_key : c.word_of-key.result ≡ word_at has.0 c.args.word = c.word_of-key.ensures.word has.0 (rw (ap (λ (u : SeatView). u.bodies) c.is_marked.ensures.view) has.1) has.2 in
     let marked : w.marked ≡ v.marked = ap (λ (x : SeatView). x.marked) same in
     onward_looked c.args.types.now v w c.args.marking.now c.args.groups.now c.args.traced c.args.traced marked
@@ -205,7 +205,7 @@ returns-clause-looked g c here =
     let w = c.mark_reference.new.seat in
     let same : OnlyLooked v u = looked c.args.seat.now c.is_marked.new.seat c.word_of-key.new.seat c.names_marked.new.seat c.word_of-value.new.seat
     c.is_marked.ensures.view c.word_of-key.ensures.view c.names_marked.ensures.view c.word_of-value.ensures.view in
-    let has : HasPair c.args.types.now v.bodies c.args.holder c.args.word = c.requires.pair in
+    let has : BodyHasPair c.args.types.now v.bodies c.args.holder c.args.word = c.requires.pair in
     let is_key : c.word_of-key.result ≡ word_at has.0 c.args.word = c.word_of-key.ensures.word has.0 (rw (ap (λ (u : SeatView). u.bodies) c.is_marked.ensures.view) has.1) has.2 in
     let marked : u.marked ≡ v.marked = ap (λ (x : SeatView). x.marked) same in
     let bodies : w.bodies ≡ v.bodies =

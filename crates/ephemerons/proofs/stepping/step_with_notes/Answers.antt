@@ -1,6 +1,6 @@
 use Rattle.std.proofs.Common.{[], ◌∷◌, None, refl, sym, subst, inl, inr, arith}
 use Rattle.mark_worklist.specs.Refusals.{refusals_of}
-use Rattle.pair_notes.specs.BodyGraph.{HasPair}
+use Rattle.pair_notes.specs.BodyGraph.{BodyHasPair}
 use Rattle.ephemerons.specs.Fixpoint.{mode_of, stage}
 use Rattle.ephemerons.proofs.Stages.{mode_popped, Works-same, Works-then, Works-popped, ground_popped}
 use Rattle.ephemerons.proofs.UnderWaySteps.{held_under_way}
@@ -41,7 +41,7 @@ loop-traced-preserved g c = record {
     | inl before ↦ elim (c.loop-traced.invariant.noted note before) [
       | inl first ↦ inl first
       | inr later ↦ inr (
-        subst (λ bs. HasPair c.args.types.now bs note.holder note.word) (sym c.trace_taken.ensures.works.kept.bodies) later.0,
+        subst (λ bs. BodyHasPair c.args.types.now bs note.holder note.word) (sym c.trace_taken.ensures.works.kept.bodies) later.0,
         c.trace_taken.ensures.works.kept.traced note.holder later.1,
       )
     ]

@@ -1,13 +1,13 @@
 use Rattle.std.proofs.Common.{◌≡◌, true, sym, subst}
 use Rattle.marker_core.specs.Bodies.{holds}
 use Rattle.marker_core.specs.declared.states.Part.TheVariants.{Read}
-use Rattle.pair_notes.specs.FieldWords.{strong_there, strong_in_hand, at_strong}
+use Rattle.pair_notes.specs.FieldWords.{strong_word_there, strong_in_hand, at_strong}
 use Rattle.ephemerons.proofs.Graph.{strong_within}
 use Rattle.ephemerons.proofs.strong_fields.trace_strong_word.Goals as goal
 
 pub trace_target-requires-clause-field : goal.trace_target-requires-clause-field
 trace_target-requires-clause-field g c =
-    strong_there c.args.seat.now c.args.holder c.args.offset c.bodies_lie_apart.ensures
+    strong_word_there c.args.seat.now c.args.holder c.args.offset c.bodies_lie_apart.ensures
     (strong_in_hand c.args.seat.now c.args.holder c.args.offset Read c.requires.hand)
 
 pub trace_target-requires-clause-hand : goal.trace_target-requires-clause-hand

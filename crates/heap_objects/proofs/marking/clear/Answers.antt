@@ -2,28 +2,28 @@ use Rattle.std.proofs.Common.{◌≡◌, ℕ, ◌+◌, ◌<◌, false, List, [],
 use Rattle.std.specs.List.{All}
 use Rattle.std.proofs.lemmas.List.{length-map}
 use Rattle.std.proofs.lemmas.List.Elements.{All-cons}
-use Rattle.marker_crew.specs.Notes.{NotesState, cleared, group_at}
+use Rattle.marker_crew.specs.Notes.{NotesState, notes_cleared, group_at}
 use Rattle.mark_worklist.specs.declared.marking.Marking.{Marking}
 use Rattle.marker_crew.specs.Crews.{CrewState}
 use Rattle.heap_objects.specs.declared.marking.Grey.{Grey}
 use Rattle.heap_objects.specs.Marking.{IsClear, IsCleared, grey_of}
 use Rattle.heap_objects.proofs.marking.clear.Goals as goal
 
-all_cleared : (groups : List NotesState) → All IsCleared (map cleared groups)
+all_cleared : (groups : List NotesState) → All IsCleared (map notes_cleared groups)
 all_cleared [] = λ k d low. absurd (omega (arith, low))
-all_cleared (x ∷ groups) = All-cons IsCleared (cleared x) (map cleared groups) (record { none_noted = refl; unrefused = refl }) (all_cleared groups)
+all_cleared (x ∷ groups) = All-cons IsCleared (notes_cleared x) (map notes_cleared groups) (record { none_noted = refl; unrefused = refl }) (all_cleared groups)
 
-first_cleared : (groups : List NotesState) → 0 < length groups → IsCleared (group_at (map cleared groups) 0)
+first_cleared : (groups : List NotesState) → 0 < length groups → IsCleared (group_at (map notes_cleared groups) 0)
 first_cleared [] some = absurd (omega (arith, some))
 first_cleared (x ∷ groups) some = record { none_noted = refl; unrefused = refl }
 
-others_cleared : (groups : List NotesState) → All IsCleared (drop 1 (map cleared groups))
+others_cleared : (groups : List NotesState) → All IsCleared (drop 1 (map notes_cleared groups))
 others_cleared [] = all_cleared []
 others_cleared (x ∷ groups) = all_cleared groups
 
-others_many : (groups : List NotesState) (markers : ℕ) → length groups ≡ markers + 1 → length (drop 1 (map cleared groups)) ≡ markers
+others_many : (groups : List NotesState) (markers : ℕ) → length groups ≡ markers + 1 → length (drop 1 (map notes_cleared groups)) ≡ markers
 others_many [] markers many = absurd (omega (arith, many))
-others_many (x ∷ groups) markers many = omega (arith, many, length-map groups cleared)
+others_many (x ∷ groups) markers many = omega (arith, many, length-map groups notes_cleared)
 
 pub returns-clause-clear : goal.returns-clause-clear
 returns-clause-clear c =

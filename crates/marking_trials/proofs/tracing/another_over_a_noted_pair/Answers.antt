@@ -2,7 +2,7 @@ use Rattle.std.proofs.Common.{List, map, not, sym, ap, ◌∙◌, subst, inl, in
 use Rattle.marker_core.specs.Bodies.{IsPlace, with_word}
 use Rattle.marker_core.specs.declared.states.Body.{Body}
 use Rattle.page_words.specs.Seat.{SeatView}
-use Rattle.pair_notes.specs.BodyGraph.{HasPair}
+use Rattle.pair_notes.specs.BodyGraph.{BodyHasPair}
 use Rattle.marking_trials.specs.SmallHeap.{pair_then_strong, two_bodies}
 use Rattle.marking_trials.proofs.SmallHeap.{other_written, other_there, pushed_place, either_place, either_pair}
 use Rattle.marking_trials.proofs.tracing.another_over_a_noted_pair.Goals as goal
@@ -23,7 +23,7 @@ closed-requires-clause-listed c p there =
 
 pub closed-requires-clause-noted : goal.closed-requires-clause-noted
 closed-requires-clause-noted c note there =
-    subst (λ bs. HasPair pair_then_strong bs note.holder note.word)
+    subst (λ bs. BodyHasPair pair_then_strong bs note.holder note.word)
     (sym (other_written _ _ _ (not c.mark.result) c.in_ok-t.ensures.traced c.store.ensures.view c.mark.ensures.view))
     (either_pair 257 257 0 note (c.in_ok-t.ensures.lists.noted note there))
 

@@ -1,7 +1,7 @@
 use Rattle.std.proofs.Common.{◌≡◌, true, List, length, refl, not, sym, ap, ◌∙◌, subst, inl, inr, arith, rules}
 use Rattle.gc_graph.specs.State.{ObjectType}
 use Rattle.mark_worklist.specs.Lists.{ListState}
-use Rattle.pair_notes.specs.BodyGraph.{HasPair}
+use Rattle.pair_notes.specs.BodyGraph.{BodyHasPair}
 use Rattle.ephemerons.specs.Fixpoint.{Mode}
 use Rattle.pair_notes.specs.Notes.{NotesState}
 use Rattle.marking_trials.specs.SmallHeap.{two_bodies}
@@ -52,7 +52,7 @@ returns-clause-lists c =
       noted = λ note there. elim (c.trace.ensures.notes.pairs note there) [
         | inl before ↦ absurd (omega (arith, before.1, ap (λ (s : NotesState). length s.notes) c.requires.notes))
         | inr pair ↦ pair_either c.args.key c.args.value c.args.strong note
-            (subst (λ (ts : List ObjectType). HasPair ts (two_bodies c.args.key c.args.value c.args.strong) note.holder note.word)
-            (c.deref.ensures ∙ c.requires.types) (subst (λ bs. HasPair c.deref.result.now bs note.holder note.word) bodies pair))
+            (subst (λ (ts : List ObjectType). BodyHasPair ts (two_bodies c.args.key c.args.value c.args.strong) note.holder note.word)
+            (c.deref.ensures ∙ c.requires.types) (subst (λ bs. BodyHasPair c.deref.result.now bs note.holder note.word) bodies pair))
       ];
     }

@@ -1,7 +1,7 @@
 use Rattle.std.proofs.Common.{◌<◌, length, set, ap, ◌∙◌, arith}
 use Rattle.std.proofs.lemmas.List.{length-set}
 use Rattle.std.proofs.lemmas.List.Edits.{map_over_more}
-use Rattle.pair_notes.specs.Notes.{cleared}
+use Rattle.pair_notes.specs.Notes.{notes_cleared}
 use Rattle.marker_crew.proofs.crew.Crew.clear_notes.Goals as goal
 
 pub loop-i-preserved : goal.loop-i-preserved
@@ -13,7 +13,7 @@ loop-i-preserved c =
     let low : i < length old = omega (arith, c.loop-i-test.true, inv.end) in
     record {
       cleared_so_far =
-          ap (set now i) (c.clear.ensures) ∙ map_over_more cleared old now i c.index_mut.result.now low inv.cleared_so_far c.index_mut.ensures.value;
+          ap (set now i) (c.clear.ensures) ∙ map_over_more notes_cleared old now i c.index_mut.result.now low inv.cleared_so_far c.index_mut.ensures.value;
       as_many = length-set now i c.clear.new.self ∙ inv.as_many;
       end = inv.end;
       room_notes = inv.room_notes;
