@@ -13,7 +13,7 @@ use Rattle.pair_notes.specs.declared.notes.Note.{Note}
 use Rattle.pair_notes.specs.BodyGraph.{pair_offsets, word_at}
 use Rattle.pair_notes.specs.Marking.{IsOver, TracedNameMarked}
 use Rattle.pair_notes.specs.Notes.{NotesState, IsNotedIn, note_of}
-use Rattle.ephemerons.specs.Fixpoint.{IsAccounted, IsSettled, IsSettledAt, untraced_places}
+use Rattle.ephemerons.specs.Fixpoint.{IsAccounted, NoteIsSettled, IsSettledAt, untraced_places}
 use Rattle.pair_notes.specs.BodyLeads.{offset_told, named_word, value_word}
 
 -- few enough to count
@@ -46,7 +46,7 @@ over_walked types v view named settled =
     (settled p (b, there, at) offset).value b k w there at pair key value marked key_marked)
 
 pub over_settled : (types : List ObjectType) (v : SeatView) (list : List ℕ) (groups : List NotesState) → IsView v → TracedNameMarked types v → list ≡ []
-    → ((note : Note) → IsNotedIn groups note → IsSettled types v note) → IsAccounted types None v list groups → IsOver types v
+    → ((note : Note) → IsNotedIn groups note → NoteIsSettled types v note) → IsAccounted types None v list groups → IsOver types v
 over_settled types v list groups view named empty settled known =
     closes types v view named no_grey (λ p b offset k w there at pair key value marked key_marked.
     elim (known.pairs p (no_grey p marked) offset b k w there at pair key value) [

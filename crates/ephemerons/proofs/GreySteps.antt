@@ -12,7 +12,7 @@ use Rattle.pair_notes.specs.BodyGraph.{AreReferences}
 use Rattle.pair_notes.specs.Marking.{heap_and_marks, GrowsWithin, HasStrongMarked, traced_count}
 use Rattle.pair_notes.specs.Notes.{NotesState, NotesGrow, HasPairsNoted, group_at, refusals_in, IsNotedIn, IsNote, note_of}
 use Rattle.pair_notes.specs.InHand.{with_trace, OnlyLooks}
-use Rattle.ephemerons.specs.Fixpoint.{Mode, Stage, stage, weight, IsGround, IsAccounted, IsUnrefused, Works, Looks, ListsMarks, unmarked_places, untraced_places}
+use Rattle.ephemerons.specs.Fixpoint.{Mode, Stage, stage, weight, IsGround, IsAccounted, IsUnrefused, Works, Looks, ListsMarks, unmarked_count, untraced_places}
 use Rattle.ephemerons.proofs.Lists.{holds_push_old, holds_push_cases}
 use Rattle.gc_graph.specs.Members.{pushed_is_held, to_range}
 use Rattle.ephemerons.proofs.Weights.{one_fewer, one_more}
@@ -85,8 +85,8 @@ module _ (types : List ObjectType) (v u w : SeatView) (m n : Marking) (groups : 
   traced_is : Reads → w.traced ≡ v.traced ++ a ∷ []
   traced_is r = r.marks.traced ∙ ap (λ (z : SeatView). z.traced) r.claimed
 
-  same_unmarked : Reads → unmarked_places u ≡ unmarked_places v
-  same_unmarked r = ap unmarked_places r.claimed
+  same_unmarked : Reads → unmarked_count u ≡ unmarked_count v
+  same_unmarked r = ap unmarked_count r.claimed
 
   same_untraced : Reads → untraced_places w ≡ untraced_places (with_trace v a)
   same_untraced r =

@@ -9,7 +9,7 @@ use Rattle.page_words.specs.Seat.{SeatView, IsAlone}
 use Rattle.pair_notes.specs.declared.notes.Note.{Note}
 use Rattle.pair_notes.specs.Marking.{heap_and_marks, MarksOn}
 use Rattle.pair_notes.specs.Notes.{group_at, note_at, note_of}
-use Rattle.ephemerons.specs.Fixpoint.{Stage, IsGround, IsSettled, IsSettledAt, Works, Looks, without_looks}
+use Rattle.ephemerons.specs.Fixpoint.{Stage, IsGround, NoteIsSettled, IsSettledAt, Works, Looks, without_looks}
 use Rattle.ephemerons.proofs.Stages.{Works-then, Works-free}
 
 -- nothing was found by either
@@ -50,27 +50,27 @@ looks_more P stays a b f g j before still here none k low =
     ]
 
 -- and so does a note, since looks settle nothing and unsettle nothing
-pub settled_stays : (types : List ObjectType) (s t : Stage) → without_looks t ≡ without_looks s → (note : Note) → IsSettled types s.view note
-    → IsSettled types t.view note
+pub settled_stays : (types : List ObjectType) (s t : Stage) → without_looks t ≡ without_looks s → (note : Note) → NoteIsSettled types s.view note
+    → NoteIsSettled types t.view note
 settled_stays types s t same note x =
-    let before : IsSettled types (heap_and_marks s.view) note = record { traced = x.traced; value = x.value } in
-    let after : IsSettled types (heap_and_marks t.view) note =
-    subst (λ (v : SeatView). IsSettled types v note) (sym (ap (λ (z : Stage). z.view) same)) before in
+    let before : NoteIsSettled types (heap_and_marks s.view) note = record { traced = x.traced; value = x.value } in
+    let after : NoteIsSettled types (heap_and_marks t.view) note =
+    subst (λ (v : SeatView). NoteIsSettled types v note) (sym (ap (λ (z : Stage). z.view) same)) before in
     record { traced = after.traced; value = after.value }
 
 -- with its number in its group
 pub noted_stays : (types : List ObjectType) (i : ℕ) (s t : Stage) → without_looks t ≡ without_looks s → (k : ℕ)
-    → (k < length (group_at s.groups i).notes → IsSettled types s.view (note_at (group_at s.groups i) k)) → k < length (group_at t.groups i).notes
-    → IsSettled types t.view (note_at (group_at t.groups i) k)
+    → (k < length (group_at s.groups i).notes → NoteIsSettled types s.view (note_at (group_at s.groups i) k)) → k < length (group_at t.groups i).notes
+    → NoteIsSettled types t.view (note_at (group_at t.groups i) k)
 noted_stays types i s t same k settled low =
     let groups : t.groups ≡ s.groups = ap (λ (z : Stage). z.groups) same in
     settled_stays types s t same (note_at (group_at t.groups i) k)
-    (subst (λ gs. IsSettled types s.view (note_at (group_at gs i) k)) (sym groups) (settled (subst (λ gs. k < length (group_at gs i).notes) groups low)))
+    (subst (λ gs. NoteIsSettled types s.view (note_at (group_at gs i) k)) (sym groups) (settled (subst (λ gs. k < length (group_at gs i).notes) groups low)))
 
 -- and all notes of a group
 pub group_stays : (types : List ObjectType) (s t : Stage) → without_looks t ≡ without_looks s → (k : ℕ)
-    → ((note : Note) → Contains (group_at s.groups k).notes note → IsSettled types s.view note) → (note : Note) → Contains (group_at t.groups k).notes note
-    → IsSettled types t.view note
+    → ((note : Note) → Contains (group_at s.groups k).notes note → NoteIsSettled types s.view note) → (note : Note) → Contains (group_at t.groups k).notes note
+    → NoteIsSettled types t.view note
 group_stays types s t same k settled note there =
     settled_stays types s t same note (settled note (subst (λ gs. Contains (group_at gs k).notes note) (ap (λ (z : Stage). z.groups) same) there))
 

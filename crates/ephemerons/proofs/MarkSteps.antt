@@ -12,7 +12,7 @@ use Rattle.mark_worklist.specs.Refusals.{refusals_of}
 use Rattle.mark_worklist.specs.Told.{told_same}
 use Rattle.pair_notes.specs.Marking.{heap_and_marks, heap_alone}
 use Rattle.pair_notes.specs.InHand.{IsTracing, MayMark}
-use Rattle.ephemerons.specs.Fixpoint.{ListsMarks, IsListed, IsFresh, unmarked_places, weight_of}
+use Rattle.ephemerons.specs.Fixpoint.{ListsMarks, IsListed, IsNewlyMarked, unmarked_count, weight_of}
 use Rattle.ephemerons.proofs.Lists.{holds_push_old, holds_push_cases}
 use Rattle.gc_graph.specs.Members.{to_range, pushed_is_held}
 use Rattle.ephemerons.proofs.Weights.{one_fewer}
@@ -32,7 +32,7 @@ may_small v w view on may = elim (cases_eq w 0) [
 ]
 
 -- one object is marked that was not
-fewer : (v : SeatView) (a : ℕ) → IsView v → IsPlace v.bodies a → holds v.marked a ≡ false → unmarked_places (marked_at v a false) + 1 ≤ unmarked_places v
+fewer : (v : SeatView) (a : ℕ) → IsView v → IsPlace v.bodies a → holds v.marked a ≡ false → unmarked_count (marked_at v a false) + 1 ≤ unmarked_count v
 fewer v a view place fresh = one_fewer (range_with_len 0 v.count) v.marked a (to_range 0 v.count a (omega arith) (omega (arith, place_below v a view place))) fresh
 
 hand_stays : (v : SeatView) (a : ℕ) → v.hand ≡ None → each_hand (hand_after_mark (kind_lists v.types) a) v.hand ≡ None
@@ -54,7 +54,7 @@ mark_lists v new m n a view place is fresh listed =
         kept = listed.kept;
         listed = λ p h. elim (listed.listed p h) [
           | inl before ↦ inl before
-          | inr here ↦ inr (subst (IsFresh v (marked_at v a false)) here (record { place = place; unmarked = fresh; marked = pushed_is_held v.marked a }))
+          | inr here ↦ inr (subst (IsNewlyMarked v (marked_at v a false)) here (record { place = place; unmarked = fresh; marked = pushed_is_held v.marked a }))
         ];
         fresh = λ fine p h. elim (holds_push_cases v.marked a p h) [
           | inl before ↦ inl before
@@ -79,7 +79,7 @@ looks_list u v m same pending hand = record {
   kept = λ p h. h;
   listed = λ p h. inl h;
   fresh = λ fine p h. inl (subst (λ l. holds l p ≡ true) (ap (λ (z : SeatView). z.marked) same) h);
-  lighter = (let no_more : unmarked_places v ≡ unmarked_places u = ap unmarked_places same in omega arith);
+  lighter = (let no_more : unmarked_count v ≡ unmarked_count u = ap unmarked_count same in omega arith);
 }
 
 -- what marking leaves as it is

@@ -11,7 +11,7 @@ use Rattle.marker_core.specs.declared.states.Body.{Body}
 use Rattle.page_words.specs.Seat.{SeatView, IsView}
 use Rattle.pair_notes.specs.BodyGraph.{AreReferences, HasType, BodyHasPair, pair_offsets, word_at}
 use Rattle.pair_notes.specs.Notes.{note_of}
-use Rattle.ephemerons.specs.Fixpoint.{IsSettled}
+use Rattle.ephemerons.specs.Fixpoint.{NoteIsSettled}
 use Rattle.pair_notes.specs.Fields.{field_at_offset}
 use Rattle.pair_notes.specs.BodyLeads.{pair_within_closed}
 
@@ -47,7 +47,7 @@ value_may v b offset k q view on there pair marked key key_marked value =
 -- a pair is settled where its value is marked whenever holder and key are
 pub pair_settled : (types : List ObjectType) (v : SeatView) (holder word : ℕ) → BodyHasPair types v.bodies holder word
     → ((b : Body) (k w : ℕ) → Contains v.bodies b → b.place ≡ holder → word_at b word ≡ k + 1 → word_at b (word + 1) ≡ w + 1 → holds v.marked holder ≡ true
-    → holds v.marked k ≡ true → holds v.marked w ≡ true) → IsSettled types v (note_of holder word)
+    → holds v.marked k ≡ true → holds v.marked w ≡ true) → NoteIsSettled types v (note_of holder word)
 pair_settled types v holder word has value =
     let field = field_at_offset Pair (declared_kinds types has.0.ty) word has.3 in
     record {

@@ -14,7 +14,7 @@ use Rattle.page_words.specs.Seat.{SeatView, OnlyLooked}
 use Rattle.pair_notes.specs.BodyGraph.{word_at}
 use Rattle.pair_notes.specs.Marking.{heap_and_marks, HasTargetMarked}
 use Rattle.pair_notes.specs.Notes.{NotesState}
-use Rattle.ephemerons.specs.Traces.{FollowPairs, IsWaiting, IsKept, IsStrongTarget, IsPairValue, Traces}
+use Rattle.ephemerons.specs.Traces.{FollowPairs, IsWaiting, IsPairKept, IsStrongTarget, IsPairValue, Traces}
 use Rattle.ephemerons.proofs.NoteSteps.{follow_none, follow_then}
 
 -- ---- one word
@@ -157,7 +157,7 @@ module _ (u v w : SeatView) (r s t : NotesState) (place : ℕ) (first later : Li
   ]
 
   kept : (b : Body) (offset key : ℕ) → Contains u.bodies b → b.place ≡ place → Contains both (PairAt offset) → word_at b offset ≡ key + 1
-      → Contains pairs (place, offset) ⊎ IsKept w b offset key
+      → Contains pairs (place, offset) ⊎ IsPairKept w b offset key
   kept b offset key there at word named = elim (Contains-append_cases first later (PairAt offset) word) [
     | inl early ↦ elim (x.kept b offset key there at early named) [
       | inl noted ↦ inl (Contains-append_left x.pairs y.pairs (place, offset) noted)

@@ -14,8 +14,8 @@ use Rattle.pair_notes.specs.Marking.{heap_and_marks, heap_alone, MarksOn, GrowsW
 use Rattle.pair_notes.specs.Notes.{NotesState, group_at, refusals_in, IsNotedIn, IsNote, HasPairsNoted, note_of}
 
 -- how many addresses are not marked
-abbrev pub unmarked_places : SeatView → ℕ
-unmarked_places v = count_by (λ p. not (holds v.marked p)) (range_with_len 0 v.count)
+abbrev pub unmarked_count : SeatView → ℕ
+unmarked_count v = count_by (λ p. not (holds v.marked p)) (range_with_len 0 v.count)
 
 -- how many addresses are not traced
 abbrev pub untraced_places : SeatView → ℕ
@@ -47,7 +47,7 @@ stage v m groups n = record { view = v; mode = mode_of m; refusals = refusals_of
 
 -- marks and traces that may still come count, and so does what is listed
 abbrev pub weight : Stage → ℕ
-weight s = 2 * unmarked_places s.view + untraced_places s.view + length s.list
+weight s = 2 * unmarked_count s.view + untraced_places s.view + length s.list
 
 -- no push and no note was refused
 pub record IsUnrefused (overflow : Bool) (groups : List NotesState) : Type 0 where
@@ -77,7 +77,7 @@ pub record IsAccounted (types : List ObjectType) (taken : Option ℕ) (v : SeatV
   pub pairs : (p : ℕ) → holds v.traced p ≡ true → HasPairsNoted types v p (IsNotedIn groups)
 
 -- the note asks for no more work: the object is traced if it is marked; and if holder and key are marked, so is the value
-pub record IsSettled (types : List ObjectType) (v : SeatView) (note : Note) : Type 0 where
+pub record NoteIsSettled (types : List ObjectType) (v : SeatView) (note : Note) : Type 0 where
   pub traced : note.word ≡ 0 → holds v.marked note.holder ≡ true → holds v.traced note.holder ≡ true
   pub value :
       (b : Body) (k w : ℕ) → Contains v.bodies b → b.place ≡ note.holder → Contains (pair_offsets types b) note.word
@@ -86,7 +86,7 @@ pub record IsSettled (types : List ObjectType) (v : SeatView) (note : Note) : Ty
 
 -- marks that may still come count, and so does what is listed
 abbrev pub weight_of : SeatView → Marking → ℕ
-weight_of v m = 2 * unmarked_places v + length m.list.items
+weight_of v m = 2 * unmarked_count v + length m.list.items
 
 -- the place was put on the list, unless the push was refused
 pub record IsListed (before after : Marking) (place : ℕ) : Type 0 where
@@ -99,7 +99,7 @@ pub record IsListed (before after : Marking) (place : ℕ) : Type 0 where
   pub length : length after.list.items ≤ length before.list.items + 1
 
 -- the object at the place was marked, which had no mark before
-pub record IsFresh (old new : SeatView) (p : ℕ) : Type 0 where
+pub record IsNewlyMarked (old new : SeatView) (p : ℕ) : Type 0 where
   pub place : IsPlace old.bodies p
   pub unmarked : holds old.marked p ≡ false
   pub marked : holds new.marked p ≡ true
@@ -115,7 +115,7 @@ pub record ListsMarks (old : SeatView) (before : Marking) (new : SeatView) (afte
   pub overflow : after.overflow ≡ false → before.overflow ≡ false
   pub told : TellsRefused (refusals_of before) (refusals_of after)
   pub kept : (p : ℕ) → Contains before.list.items p → Contains after.list.items p
-  pub listed : (p : ℕ) → Contains after.list.items p → Contains before.list.items p ⊎ IsFresh old new p
+  pub listed : (p : ℕ) → Contains after.list.items p → Contains before.list.items p ⊎ IsNewlyMarked old new p
   pub fresh :
       after.overflow ≡ false → (p : ℕ) → holds new.marked p ≡ true → (holds old.marked p ≡ true) ⊎ Contains after.list.items p
   pub lighter : weight_of new after ≤ weight_of old before
@@ -167,4 +167,4 @@ pub record Looks (types : List ObjectType) (taken : Option ℕ) (old new : Stage
 
 -- the object at the place asks for no more work, and none of its pairs does
 abbrev pub IsSettledAt : List ObjectType → SeatView → ℕ → Type 0
-IsSettledAt types v p = (offset : ℕ) → IsSettled types v (note_of p offset)
+IsSettledAt types v p = (offset : ℕ) → NoteIsSettled types v (note_of p offset)

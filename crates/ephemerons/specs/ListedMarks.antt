@@ -6,13 +6,13 @@ use Rattle.mark_worklist.specs.Told.{told_same, told_then}
 use Rattle.mark_worklist.specs.declared.marking.Marking.{Marking}
 use Rattle.marker_core.specs.Bodies.{IsPlace, holds}
 use Rattle.page_words.specs.Seat.{SeatView, IsAlone, IsStill, OnlyLooked}
-use Rattle.ephemerons.specs.Fixpoint.{ListsMarks, IsFresh, weight_of}
+use Rattle.ephemerons.specs.Fixpoint.{ListsMarks, IsNewlyMarked, weight_of}
 use Rattle.pair_notes.specs.Marking.{heap_alone}
 
-fresh_after : (u v w : SeatView) (m n : Marking) (p : ℕ) → ListsMarks v m w n → IsFresh u v p → IsFresh u w p
+fresh_after : (u v w : SeatView) (m n : Marking) (p : ℕ) → ListsMarks v m w n → IsNewlyMarked u v p → IsNewlyMarked u w p
 fresh_after u v w m n p y fresh = record { place = fresh.place; unmarked = fresh.unmarked; marked = y.marked p fresh.marked }
 
-fresh_before : (u v w : SeatView) (l m : Marking) (p : ℕ) → ListsMarks u l v m → IsFresh v w p → IsFresh u w p
+fresh_before : (u v w : SeatView) (l m : Marking) (p : ℕ) → ListsMarks u l v m → IsNewlyMarked v w p → IsNewlyMarked u w p
 fresh_before u v w l m p x fresh = record {
   place = subst (λ bs. IsPlace bs p) (ap (λ (z : SeatView). z.bodies) x.view) fresh.place;
   unmarked = false_from_ne_true (holds u.marked p) (λ early. true≢false (sym (x.marked p early) ∙ fresh.unmarked));

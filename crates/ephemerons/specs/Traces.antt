@@ -34,7 +34,7 @@ pub record IsWaiting (u : SeatView) (b : Body) (words : List TracedWord) (pair :
   pub unmarked : holds u.marked key ≡ false
 
 -- the key is marked, and the value of the pair at the offset is null or marked
-pub record IsKept (w : SeatView) (b : Body) (offset key : ℕ) : Type 0 where
+pub record IsPairKept (w : SeatView) (b : Body) (offset key : ℕ) : Type 0 where
   pub marked : holds w.marked key ≡ true
   pub value : (q : ℕ) → word_at b (offset + 1) ≡ reference_to q → holds w.marked q ≡ true
 
@@ -63,7 +63,7 @@ pub record Traces (u : SeatView) (old : NotesState) (w : SeatView) (new : NotesS
   pub waiting : (b : Body) (pair : ℕ × ℕ) → Contains u.bodies b → b.place ≡ place → Contains pairs pair → IsWaiting u b words pair
   pub kept :
       (b : Body) (offset key : ℕ) → Contains u.bodies b → b.place ≡ place → Contains words (PairAt offset)
-      → word_at b offset ≡ reference_to key → Contains pairs (place, offset) ⊎ IsKept w b offset key
+      → word_at b offset ≡ reference_to key → Contains pairs (place, offset) ⊎ IsPairKept w b offset key
   pub only :
       (b : Body) (q : ℕ) → Contains u.bodies b → b.place ≡ place → holds w.marked q ≡ true
       → (holds u.marked q ≡ true) ⊎ (IsStrongTarget b words q ⊎ IsPairValue b words pairs q)

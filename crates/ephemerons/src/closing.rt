@@ -9,7 +9,7 @@ ghost use Rattle.pair_notes.specs.declared.notes.Note.{Note};
 ghost use Rattle.pair_notes.specs.BodyGraph.{PlacesDiffer};
 ghost use Rattle.pair_notes.specs.Marking.{MarksOn, GrowsWithin, IsOver, traced_count};
 ghost use Rattle.pair_notes.specs.Notes.{IsNote, IsNotedIn, group_at, refusals_in};
-ghost use Rattle.ephemerons.specs.Fixpoint.{IsGround, IsAccounted, IsSettled, IsUnrefused};
+ghost use Rattle.ephemerons.specs.Fixpoint.{IsGround, IsAccounted, NoteIsSettled, IsUnrefused};
 ghost use Rattle.ephemerons.specs.Fixpoint.{Works, mode_of, stage, weight};
 ghost use Rattle.ephemerons.specs.LookedAt.{AreHoldersMarked, LooksWithin, LooksOnward};
 
@@ -131,7 +131,7 @@ fn turn<B: Bodywords>(
         (stage seat.new marking.new groups.new traced.new) }
     ensures list { result ≡ false → marking.new.list.items ≡ [] }
     ensures settled { result ≡ false → (note : Note) → IsNotedIn groups.new note
-        → IsSettled types.now seat.new note }
+        → NoteIsSettled types.now seat.new note }
     ensures found { result ≡ true → weight (stage seat.new marking.new groups.new traced.new)
         < weight (stage seat.old marking.old groups.old traced.old) }
 {

@@ -6,7 +6,7 @@ ghost use Rattle.marker_core.specs.Bodies.{IsPlace, holds};
 ghost use Rattle.pair_notes.specs.BodyGraph.{BodyHasPair};
 ghost use Rattle.pair_notes.specs.declared.notes.Note.{Note};
 ghost use Rattle.pair_notes.specs.Notes.{IsNote, IsNotedIn, group_at, note_at, note_of};
-ghost use Rattle.ephemerons.specs.Fixpoint.{IsGround, IsSettled, Looks, Works, stage};
+ghost use Rattle.ephemerons.specs.Fixpoint.{IsGround, NoteIsSettled, Looks, Works, stage};
 ghost use Rattle.ephemerons.specs.LookedAt.{LooksOnward};
 
 use crate::marks::{is_marked, mark_reference, names_marked, word_of};
@@ -32,7 +32,7 @@ pub(crate) fn settle_notes<B: Bodywords>(
         (stage seat.old marking.old groups.old traced.old)
         (stage seat.new marking.new groups.new traced.new) result }
     ensures settled { result ≡ false → (note : Note) → IsNotedIn groups.new note
-        → IsSettled types.now seat.new note }
+        → NoteIsSettled types.now seat.new note }
     ensures looked { LooksOnward types.now
         (stage seat.old marking.old groups.old traced.old)
         (stage seat.new marking.new groups.new traced.new) }
@@ -63,7 +63,7 @@ fn settle_group<B: Bodywords>(
         (stage seat.old marking.old groups.old traced.old)
         (stage seat.new marking.new groups.new traced.new) result }
     ensures settled { result ≡ false → (note : Note) → Contains (group_at groups.new i).notes note
-        → IsSettled types.now seat.new note }
+        → NoteIsSettled types.now seat.new note }
     ensures looked { LooksOnward types.now
         (stage seat.old marking.old groups.old traced.old)
         (stage seat.new marking.new groups.new traced.new) }
@@ -155,7 +155,7 @@ fn settle_at<B: Bodywords>(
         (stage seat.old marking.old groups.old traced.old)
         (stage seat.new marking.new groups.new traced.new) result }
     ensures settled { result ≡ false → j < length (group_at groups.new i).notes
-        → IsSettled types.now seat.new (note_at (group_at groups.new i) j) }
+        → NoteIsSettled types.now seat.new (note_at (group_at groups.new i) j) }
     ensures looked { LooksOnward types.now
         (stage seat.old marking.old groups.old traced.old)
         (stage seat.new marking.new groups.new traced.new) }
@@ -186,7 +186,7 @@ fn settle<B: Bodywords>(
     ensures looks { Looks types.now None
         (stage seat.old marking.old groups.old traced.old)
         (stage seat.new marking.new groups.new traced.new) result }
-    ensures settled { result ≡ false → IsSettled types.now seat.new note }
+    ensures settled { result ≡ false → NoteIsSettled types.now seat.new note }
     ensures looked { holds seat.old.marked note.holder ≡ true → LooksOnward types.now
         (stage seat.old marking.old groups.old traced.old)
         (stage seat.new marking.new groups.new traced.new) }
@@ -225,7 +225,7 @@ pub(crate) fn settle_pair<B: Bodywords>(
     ensures looks { Looks types.now None
         (stage seat.old marking.old groups.now traced)
         (stage seat.new marking.new groups.now traced) result }
-    ensures settled { result ≡ false → IsSettled types.now seat.new (note_of holder word) }
+    ensures settled { result ≡ false → NoteIsSettled types.now seat.new (note_of holder word) }
     ensures looked { holds seat.old.marked holder ≡ true → LooksOnward types.now
         (stage seat.old marking.old groups.now traced)
         (stage seat.new marking.new groups.now traced) }

@@ -5,7 +5,7 @@ ghost use Rattle.marker_core.specs.Bodies.{IsPlace};
 ghost use Rattle.pair_notes.specs.BodyGraph.{BodyHasPair};
 ghost use Rattle.pair_notes.specs.Marking.{IsOver};
 ghost use Rattle.pair_notes.specs.Notes.{note_of};
-ghost use Rattle.ephemerons.specs.Fixpoint.{IsGround, IsSettled, IsSettledAt, Looks};
+ghost use Rattle.ephemerons.specs.Fixpoint.{IsGround, NoteIsSettled, IsSettledAt, Looks};
 ghost use Rattle.ephemerons.specs.Fixpoint.{Works, stage, weight};
 
 use crate::draining::drain;
@@ -136,7 +136,7 @@ fn settle_pairs<B: Bodywords>(
         (stage seat.old marking.old groups.now traced)
         (stage seat.new marking.new groups.now traced) result }
     ensures settled { result ≡ false → (offset : ℕ) → BodyHasPair types.now seat.new.bodies a offset
-        → IsSettled types.now seat.new (note_of a offset) }
+        → NoteIsSettled types.now seat.new (note_of a offset) }
 {
     seat.bodies_lie_apart();
     let ty = type_of(space, seat, a);

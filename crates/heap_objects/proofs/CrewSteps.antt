@@ -31,7 +31,7 @@ use Rattle.atomic_pause.specs.UnderWayStays.{holder_yet}
 use Rattle.marker_crew.specs.Crews.{Marker}
 use Rattle.marker_crew.specs.declared.draining.Drained.{Drained}
 use Rattle.marker_crew.specs.Drains.{nothing_yet, AreDealtWith}
-use Rattle.marker_crew.specs.Stages.{stage, Works}
+use Rattle.marker_crew.specs.Stages.{drain_stage, MarkerWorks}
 use Rattle.heap_objects.specs.Crews.{IsSameHeap, IsStepped}
 use Rattle.heap_objects.specs.Marking.{GreyView, HasFound, pushes_in}
 use Rattle.heap_objects.specs.Marks.{HasCrew, IsNew, IsOut}
@@ -57,8 +57,8 @@ module _ (v : SeatView) (g : GreyView) (m : MarkerSeatView) (k : ShareState) (o 
     (way : IsUnderWay v g.marking g.notes) (crew : HasCrew v g) (some : 0 < length g.running) (differ : PlacesDiffer v.bodies)
     (pushes_told : TellsRefused (record { told = false; count = g.since.pushes }) (pushes_in g))
     (seat : w ≡ joined_with (lent_from v) m) (view : IsView w)
-    (works : Works (stage (new_marker v) (at g.marking.list.shares 0) g.notes nothing_yet) (stage m k o d))
-    (taken : AreDealtWith (at g.marking.list.shares 0) (stage m k o d))
+    (works : MarkerWorks (drain_stage (new_marker v) (at g.marking.list.shares 0) g.notes nothing_yet) (drain_stage m k o d))
+    (taken : AreDealtWith (at g.marking.list.shares 0) (drain_stage m k o d))
     (list : n.list ≡ as_own (set g.marking.list.shares 0 k)) (on : n.on ≡ g.marking.on)
     (overflow : (n.overflow ≡ false → g.marking.overflow ≡ false) × (g.marking.overflow ≡ true → n.overflow ≡ true))
     (raised : k.refused ≢ g.marking.list.refused → n.overflow ≡ true)

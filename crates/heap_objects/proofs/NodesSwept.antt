@@ -11,7 +11,7 @@ use Rattle.marker_core.specs.declared.states.Body.{Body}
 use Rattle.marker_core.specs.Bodies.{holds}
 use Rattle.page_words.specs.Seat.{SeatView}
 use Rattle.page_space.specs.Pages.{is_between}
-use Rattle.sweeper.specs.Sweeping.{IsClearBelow, Sweeps, AreDeadSerials, IsDeadIn, no_body, outside, is_dead_in}
+use Rattle.sweeper.specs.Sweeping.{IsClearBelow, Sweeps, AreDeadSerials, IsDeadBetween, no_body, outside, is_dead_in}
 use Rattle.atomic_pause.specs.Nodes.{place_of, body_of, bodies_from, IsThere, IsHeld}
 use Rattle.atomic_pause.specs.NodeBodies.{bodies-there, bodies-gone}
 use Rattle.atomic_pause.specs.NodeChanges.{bodies-same}
@@ -104,7 +104,7 @@ held_below nodes v w from limit before after held clear sweeps =
 -- ---- what is told
 
 -- the node of a dead body
-dead_node : (nodes : List Node) (v : SeatView) (from limit : ℕ) (b : Body) → IsHeld nodes v → IsDeadIn from limit v b
+dead_node : (nodes : List Node) (v : SeatView) (from limit : ℕ) (b : Body) → IsHeld nodes v → IsDeadBetween from limit v b
     → IsDead nodes b.serial × (place_of nodes b.serial ≡ b.place)
 dead_node nodes v from limit b held is =
     let w = body_node nodes v b held.bodies is.there in
@@ -115,7 +115,7 @@ dead_node nodes v from limit b held is =
 
 -- the body of a dead node
 dead_body : (nodes : List Node) (v : SeatView) (from limit n : ℕ) → IsHeld nodes v → IsClearBelow from v → IsDeadBelow nodes limit n
-    → IsDeadIn from limit v (body_of (place_of nodes) n (node_at nodes n))
+    → IsDeadBetween from limit v (body_of (place_of nodes) n (node_at nodes n))
 dead_body nodes v from limit n held clear is =
     let there : IsThere nodes n = ap is_there is.dead in
     let dead : holds v.dead (place_of nodes n) ≡ true = held.dead n there ∙ ap is_dead is.dead in
@@ -140,7 +140,7 @@ dead_in_order nodes v from limit numbers held clear serials =
     let inside : i < length serials.dead = subst (λ l. i < l) long low in
     let number : get_or numbers i 0 ≡ (body i).serial =
     ap (λ l. get_or l i 0) is ∙ get_or-map (λ (b : Body). b.serial) serials.dead i no_body 0 inside in
-    let each : IsDeadIn from limit v (body i) = All-get_or (IsDeadIn from limit v) serials.dead i no_body inside serials.each in
+    let each : IsDeadBetween from limit v (body i) = All-get_or (IsDeadBetween from limit v) serials.dead i no_body inside serials.each in
     let d = dead_node nodes v from limit (body i) held each in
     let place : place_of nodes (get_or numbers i 0) ≡ (body i).place = ap (place_of nodes) number ∙ d.1 in
     (record { dead = subst (IsDead nodes) (sym number) d.0; below = omega (arith, place, each.last) }, place) in

@@ -11,7 +11,7 @@ use Rattle.page_words.specs.Roles.{kind_lists}
 use Rattle.page_words.specs.Markers.{MarkerSeatView, with_marker, claimed_as, start_read, stop_read}
 use Rattle.pair_notes.specs.HandPath.{hand_first}
 use Rattle.pair_notes.specs.InHand.{hand_over, traced_in}
-use Rattle.marker_crew.specs.Stages.{Keeps, OnlyLooks}
+use Rattle.marker_crew.specs.Stages.{KeepsItems, MarkerOnlyLooks}
 use Rattle.marker_crew.proofs.Working.{keeps_more}
 
 module _ (v u : MarkerSeatView) (a header found : ℕ) (is : u ≡ claimed_as v a header found) where
@@ -72,15 +72,15 @@ module _ (v u : MarkerSeatView) (a header found : ℕ) (is : u ≡ claimed_as v 
   failed_is other =
       subst (λ (x : MarkerSeatView). Contains x.done a ⊎ Contains x.missed a) (sym (missed other)) (joined (has_traced found) v.done v.missed)
 
-  kept : (b : Bool) (xs more : List ℕ) → Keeps xs (cond b (xs ++ more) xs)
+  kept : (b : Bool) (xs more : List ℕ) → KeepsItems xs (cond b (xs ++ more) xs)
   kept true xs more = keeps_more xs (xs ++ more) more refl
   kept false xs more = λ x there. there
 
-  kept_else : (b : Bool) (xs more : List ℕ) → Keeps xs (cond b xs (xs ++ more))
+  kept_else : (b : Bool) (xs more : List ℕ) → KeepsItems xs (cond b xs (xs ++ more))
   kept_else true xs more = λ x there. there
   kept_else false xs more = keeps_more xs (xs ++ more) more refl
 
-  pub failed_looks : eqb found header ≡ false → OnlyLooks v u
+  pub failed_looks : eqb found header ≡ false → MarkerOnlyLooks v u
   failed_looks other = record {
     heap = ap (λ (x : MarkerSeatView). x.heap) (missed other);
     types = ap (λ (x : MarkerSeatView). x.types) (missed other);
@@ -99,11 +99,11 @@ module _ (v u : MarkerSeatView) (a header found : ℕ) (is : u ≡ claimed_as v 
 
 -- ---- a start bit, and the stop word
 
-start_kept : (b : Bool) (xs more : List ℕ) → Keeps xs (cond b xs (xs ++ more))
+start_kept : (b : Bool) (xs more : List ℕ) → KeepsItems xs (cond b xs (xs ++ more))
 start_kept true xs more = λ x there. there
 start_kept false xs more = keeps_more xs (xs ++ more) more refl
 
-pub start_looks : (v u : MarkerSeatView) (a : ℕ) (set : Bool) → u ≡ start_read v a set → OnlyLooks v u
+pub start_looks : (v u : MarkerSeatView) (a : ℕ) (set : Bool) → u ≡ start_read v a set → MarkerOnlyLooks v u
 start_looks v u a set is = record {
   heap = ap (λ (x : MarkerSeatView). x.heap) is;
   types = ap (λ (x : MarkerSeatView). x.types) is;
@@ -118,7 +118,7 @@ start_looks v u a set is = record {
 pub start_missed : (v u : MarkerSeatView) (a : ℕ) → u ≡ start_read v a false → Contains u.missed a
 start_missed v u a is = subst (λ (s : MarkerSeatView). Contains s.missed a) (sym is) (Contains-push v.missed a)
 
-pub stop_looks : (v u : MarkerSeatView) (stop : Bool) → u ≡ stop_read v stop → OnlyLooks v u
+pub stop_looks : (v u : MarkerSeatView) (stop : Bool) → u ≡ stop_read v stop → MarkerOnlyLooks v u
 stop_looks v u stop is = record {
   heap = ap (λ (x : MarkerSeatView). x.heap) is;
   types = ap (λ (x : MarkerSeatView). x.types) is;

@@ -13,13 +13,13 @@ use Rattle.marker_core.specs.Hands.{hand_read, hand_looked, hand_moved, wants, w
 use Rattle.marker_core.specs.Layout.{has_mark, has_traced}
 use Rattle.page_words.specs.Roles.{kind_lists}
 use Rattle.page_words.specs.Markers.{MarkerSeatView, field_read, header_read}
-use Rattle.marker_crew.specs.Hands.{IsAt, IsAtTarget}
-use Rattle.marker_crew.specs.Stages.{Keeps, OnlyLooks}
+use Rattle.marker_crew.specs.Hands.{MarkerIsAt, MarkerIsAtTarget}
+use Rattle.marker_crew.specs.Stages.{KeepsItems, MarkerOnlyLooks}
 use Rattle.marker_crew.proofs.Working.{keeps_more}
 
 -- ---- a word is read
 
-pub read_looks : (v u : MarkerSeatView) (w : ℕ) → u ≡ field_read v w → OnlyLooks v u
+pub read_looks : (v u : MarkerSeatView) (w : ℕ) → u ≡ field_read v w → MarkerOnlyLooks v u
 read_looks v u w is = record {
   heap = ap (λ (x : MarkerSeatView). x.heap) is;
   types = ap (λ (x : MarkerSeatView). x.types) is;
@@ -44,7 +44,7 @@ read_named v u w t h part held is names finds =
 -- ---- a pair
 
 -- its key was read
-pub key_in_hand : (v u : MarkerSeatView) (place offset w key : ℕ) (at : IsAt v place offset KeyWord Read) → u ≡ field_read v w → w ≡ key + 1
+pub key_in_hand : (v u : MarkerSeatView) (place offset w key : ℕ) (at : MarkerIsAt v place offset KeyWord Read) → u ≡ field_read v w → w ≡ key + 1
     → u.hand ≡ Some (record { place = place; ty = at.ty; next = offset; part = Key key })
 key_in_hand v u place offset w key at is names =
     read_named v u w key (record { place = place; ty = at.ty; next = offset; part = Read }) (Key key) at.is is names
@@ -86,19 +86,19 @@ module _ (v u : MarkerSeatView) (place offset ty key w : ℕ) (held : v.hand ≡
   pair_noted none = key_noted ∙ ap (λ xs. v.noted ++ xs) (cond-false (has_mark w) [] ((place, offset) ∷ []) none)
 
 -- what a look at a header leaves
-done_kept : (b : Bool) (xs : List ℕ) (a : ℕ) → Keeps xs (cond b (xs ++ a ∷ []) xs)
+done_kept : (b : Bool) (xs : List ℕ) (a : ℕ) → KeepsItems xs (cond b (xs ++ a ∷ []) xs)
 done_kept true xs a = keeps_more xs (xs ++ a ∷ []) (a ∷ []) refl
 done_kept false xs a = λ x there. there
 
 module _ (v u : MarkerSeatView) (a w : ℕ) (is : u ≡ header_read v a w) where
-  pub header_done : Keeps v.done u.done
+  pub header_done : KeepsItems v.done u.done
   header_done x there = subst (λ (s : MarkerSeatView). Contains s.done x) (sym is) (done_kept (has_traced w) v.done a x there)
 
-  pub header_missed : Keeps v.missed u.missed
+  pub header_missed : KeepsItems v.missed u.missed
   header_missed x there =
       subst (λ (s : MarkerSeatView). Contains s.missed x) (sym is) (done_kept (is_none v.hand && not (has_mark w) && not (has_traced w)) v.missed a x there)
 
-  pub header_looks : u.noted ≡ v.noted → OnlyLooks v u
+  pub header_looks : u.noted ≡ v.noted → MarkerOnlyLooks v u
   header_looks noted = record {
     heap = ap (λ (x : MarkerSeatView). x.heap) is;
     types = ap (λ (x : MarkerSeatView). x.types) is;
@@ -110,8 +110,8 @@ module _ (v u : MarkerSeatView) (a w : ℕ) (is : u ≡ header_read v a w) where
   }
 
 -- the value of the pair in hand comes next
-pub value_target : (v u : MarkerSeatView) (place offset : ℕ) (at : IsAt v place offset KeyWord Read) → u.types ≡ v.types
-    → u.hand ≡ Some (record { place = place; ty = at.ty; next = offset; part = Value }) → IsAtTarget u (place + offset + 1)
+pub value_target : (v u : MarkerSeatView) (place offset : ℕ) (at : MarkerIsAt v place offset KeyWord Read) → u.types ≡ v.types
+    → u.hand ≡ Some (record { place = place; ty = at.ty; next = offset; part = Value }) → MarkerIsAtTarget u (place + offset + 1)
 value_target v u place offset at types held = record {
   hand = record { place = place; ty = at.ty; next = offset; part = Value };
   is = held;

@@ -9,7 +9,7 @@ use Rattle.std.proofs.lemmas.List.Elements.{Contains-append_left, Contains-appen
 use Rattle.std.proofs.lemmas.List.Folds.{flat_map-map}
 use Rattle.mark_worklist.specs.Ends.{OtherState}
 use Rattle.mark_worklist.specs.Shares.{ShareState, IsSameShare, taken_by_share, share_pushed, popped, refused_once, Stole, StoleNone}
-use Rattle.marker_crew.specs.Drains.{IsIdle, IsTaken}
+use Rattle.marker_crew.specs.Drains.{IsIdle, IsOneTaken}
 
 -- ---- it has the same lists
 
@@ -77,7 +77,7 @@ taken_from h = ap (λ xs. h.own.hand.taken ++ xs) (sym (flat_map-map (λ (xs : L
 
 -- ---- an item is popped, or stolen
 
-pub popped_is : (h k : ShareState) (a : ℕ) → k ≡ popped h a → IsTaken h a k
+pub popped_is : (h k : ShareState) (a : ℕ) → k ≡ popped h a → IsOneTaken h a k
 popped_is h k a is =
     let others : List ℕ = flat_map (λ (e : OtherState). e.taken) h.others in
     let now : taken_by_share k ≡ (h.own.hand.taken ++ a ∷ []) ++ others = ap taken_by_share is in
@@ -103,7 +103,7 @@ popped_is h k a is =
       ];
     }
 
-stolen_is : (h k : ShareState) (a : ℕ) → Stole h a k → IsTaken h a k
+stolen_is : (h k : ShareState) (a : ℕ) → Stole h a k → IsOneTaken h a k
 stolen_is h k a stole =
     let before : List (List ℕ) = map (λ (e : OtherState). e.taken) h.others in
     let own : k.own.hand.taken ≡ h.own.hand.taken = ap (λ (s : ShareState). s.own.hand.taken) stole.rest in
@@ -156,7 +156,7 @@ none_stolen h k none =
 
 -- ---- a pop that found nothing, and then a steal
 
-taken_after : (h k l : ShareState) (a : ℕ) → taken_by_share k ≡ taken_by_share h → IsTaken k a l → IsTaken h a l
+taken_after : (h k l : ShareState) (a : ℕ) → taken_by_share k ≡ taken_by_share h → IsOneTaken k a l → IsOneTaken h a l
 taken_after h k l a same is = record {
   count = omega (arith, is.count, ap length same);
   kept = λ b there. is.kept b (subst (λ xs. Contains xs b) (sym same) there);
@@ -165,7 +165,7 @@ taken_after h k l a same is = record {
 }
 
 pub then_stolen : (h k l : ShareState) (found : Option ℕ) → k ≡ record h { pop_found_none = true } → MatchOption found (StoleNone k l) (λ a. Stole k a l)
-    → MatchOption found ((taken_by_share l ≡ taken_by_share h) × IsIdle l) (λ a. IsTaken h a l)
+    → MatchOption found ((taken_by_share l ≡ taken_by_share h) × IsIdle l) (λ a. IsOneTaken h a l)
 then_stolen h k l None pop none = (
   none_stolen k l none ∙ ap taken_by_share pop,
   (ap (λ (s : ShareState). s.pop_found_none) none.rest ∙ ap (λ (s : ShareState). s.pop_found_none) pop, ap (λ (s : ShareState). s.steal_found_none) none.rest),
@@ -174,12 +174,12 @@ then_stolen h k l (Some a) pop stole = taken_after h k l a (ap taken_by_share po
 
 -- ---- one look after another
 
-pub then_found : (h k l : ShareState) (found : Option ℕ) → taken_by_share k ≡ taken_by_share h → MatchOption found ((taken_by_share l ≡ taken_by_share k) × IsIdle l) (λ a. IsTaken k a l)
-    → MatchOption found ((taken_by_share l ≡ taken_by_share h) × IsIdle l) (λ a. IsTaken h a l)
+pub then_found : (h k l : ShareState) (found : Option ℕ) → taken_by_share k ≡ taken_by_share h → MatchOption found ((taken_by_share l ≡ taken_by_share k) × IsIdle l) (λ a. IsOneTaken k a l)
+    → MatchOption found ((taken_by_share l ≡ taken_by_share h) × IsIdle l) (λ a. IsOneTaken h a l)
 then_found h k l None same none = (none.0 ∙ same, none.1)
 then_found h k l (Some a) same taken = taken_after h k l a same taken
 
-pub found_none : (h l : ShareState) (found : Option ℕ) → is_some found ≡ false → MatchOption found ((taken_by_share l ≡ taken_by_share h) × IsIdle l) (λ a. IsTaken h a l)
+pub found_none : (h l : ShareState) (found : Option ℕ) → is_some found ≡ false → MatchOption found ((taken_by_share l ≡ taken_by_share h) × IsIdle l) (λ a. IsOneTaken h a l)
     → (taken_by_share l ≡ taken_by_share h) × IsIdle l
 found_none h l None none told = told
 found_none h l (Some a) none told = absurd (true≢false none)

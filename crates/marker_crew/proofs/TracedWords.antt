@@ -19,14 +19,14 @@ use Rattle.page_words.specs.Markers.{MarkerSeatView}
 use Rattle.pair_notes.specs.BodyLeads.{role_of_offset}
 use Rattle.pair_notes.specs.HandPath.{hand_each, hand_next, told_offsets, told_length}
 use Rattle.pair_notes.specs.InHand.{hand_over, traced_in}
-use Rattle.marker_crew.specs.Hands.{IsAtWord, moved_on}
+use Rattle.marker_crew.specs.Hands.{MarkerIsAtWord, marker_moved_on}
 
 -- an object of a type, of whose place and words nothing is said
 abbrev of_type : ℕ → Body
 of_type ty = record { place = 0; ty = ty; size = 0; serial = 0; fields = [] }
 
 module _ (types : List ObjectType) (v : MarkerSeatView) (same : v.types ≡ types) (place ty : ℕ) (told : List TracedWord) (is : told ≡ traced_words_of (declared_kinds types ty)) where
-  at_word : (word : TracedWord) → Contains told word → v.hand ≡ Some (record { place = place; ty = ty; next = offset_in word; part = Read }) → IsAtWord v place word
+  at_word : (word : TracedWord) → Contains told word → v.hand ≡ Some (record { place = place; ty = ty; next = offset_in word; part = Read }) → MarkerIsAtWord v place word
   at_word (StrongAt offset) there hand = record {
     ty = ty;
     is = hand;
@@ -46,7 +46,7 @@ module _ (types : List ObjectType) (v : MarkerSeatView) (same : v.types ≡ type
         (pair_there (traced_words_of (declared_kinds types ty)) offset (subst (λ l. Contains l (PairAt offset)) is there))));
   }
 
-  pub at_each_word : (i : ℕ) → i < length told → v.hand ≡ hand_over place ty (drop i (traced_in types ty)) → IsAtWord v place (get_or told i (StrongAt 0))
+  pub at_each_word : (i : ℕ) → i < length told → v.hand ≡ hand_over place ty (drop i (traced_in types ty)) → MarkerIsAtWord v place (get_or told i (StrongAt 0))
   at_each_word i low hand =
       let all : List ℕ = traced_in types ty in
       let within : i < length all = omega (arith, told_length types ty told is) in
@@ -56,7 +56,7 @@ module _ (types : List ObjectType) (v : MarkerSeatView) (same : v.types ≡ type
       (hand ∙ hand_each all place ty i within ∙ ap (λ o. Some (record { place = place; ty = ty; next = o; part = Read })) offset)
 
   -- and once it has moved on
-  pub at_next_word : (w : MarkerSeatView) (i : ℕ) → i < length told → v.hand ≡ hand_over place ty (drop i (traced_in types ty)) → w.hand ≡ moved_on v
+  pub at_next_word : (w : MarkerSeatView) (i : ℕ) → i < length told → v.hand ≡ hand_over place ty (drop i (traced_in types ty)) → w.hand ≡ marker_moved_on v
       → w.hand ≡ hand_over place ty (drop (i + 1) (traced_in types ty))
   at_next_word w i low hand moved =
       let within : i < length (traced_in types ty) = omega (arith, told_length types ty told is) in

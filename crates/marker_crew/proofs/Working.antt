@@ -14,23 +14,23 @@ use Rattle.page_words.specs.Markers.{MarkerSeatView}
 use Rattle.mark_worklist.specs.Kept.{same-share, share-then}
 use Rattle.mark_worklist.specs.Shares.{ShareState, IsSameShare, put_of, taken_by_share, last_count, more_counted}
 use Rattle.marker_crew.specs.declared.draining.Drained.{Drained}
-use Rattle.marker_crew.specs.Stages.{Stage, stage, Lists, Notes, Keeps, IsLater, HasCause, IsNoteOf, HasRisen, Works, OnlyLooks}
+use Rattle.marker_crew.specs.Stages.{DrainStage, drain_stage, Lists, Notes, KeepsItems, IsLater, HasCauseToNote, IsNoteOf, HasRisen, MarkerWorks, MarkerOnlyLooks}
 use Rattle.marker_crew.proofs.Shares.{same_pushed, same_refused}
 
-keeps_all : {X : Type 0} (old new : List X) → new ≡ old → Keeps old new
+keeps_all : {X : Type 0} (old new : List X) → new ≡ old → KeepsItems old new
 keeps_all old new same x there = subst (λ xs. Contains xs x) (sym same) there
 
-pub keeps_more : {X : Type 0} (old new more : List X) → new ≡ old ++ more → Keeps old new
+pub keeps_more : {X : Type 0} (old new more : List X) → new ≡ old ++ more → KeepsItems old new
 keeps_more old new more is x there = subst (λ xs. Contains xs x) (sym is) (Contains-append_left old more x there)
 
 -- a note keeps its cause
-cause_stays : (s t : Stage) (a : ℕ) → IsLater s t → HasCause s.seat a → HasCause t.seat a
+cause_stays : (s t : DrainStage) (a : ℕ) → IsLater s t → HasCauseToNote s.seat a → HasCauseToNote t.seat a
 cause_stays s t a later why = elim why [
   | inl missed ↦ inl (later.missed a missed)
   | inr far ↦ inr (omega (arith, far, ap (λ h. h.count) later.heap))
 ]
 
-note_stays : (s t : Stage) (note : Note) → IsLater s t → IsNoteOf s.seat s.share note → IsNoteOf t.seat t.share note
+note_stays : (s t : DrainStage) (note : Note) → IsLater s t → IsNoteOf s.seat s.share note → IsNoteOf t.seat t.share note
 note_stays s t note later is = elim is [
   | inl pair ↦ inl (later.noted (note.holder, note.word) pair.0, later.traced note.holder pair.1)
   | inr place ↦ inr (place.0, (later.taken note.holder place.1.0, cause_stays s t note.holder later place.1.1))
@@ -38,7 +38,7 @@ note_stays s t note later is = elim is [
 
 -- ---- one work after another
 
-later_then : (s t u : Stage) → IsLater s t → IsLater t u → IsLater s u
+later_then : (s t u : DrainStage) → IsLater s t → IsLater t u → IsLater s u
 later_then s t u x y = record {
   heap = y.heap ∙ x.heap;
   types = y.types ∙ x.types;
@@ -64,7 +64,7 @@ risen_then a b c low high rose = elim rose [
 pub untold : (a b : Refusals) → TellsRefused a b → b.told ≡ false → a.told ≡ false
 untold a b tells fine = elim (cases_Bool a.told) [ inl told ↦ absurd (true≢false (sym (tells.kept told) ∙ fine)) | inr not_so ↦ not_so ]
 
-pub Works-then : (s t u : Stage) → Works s t → Works t u → Works s u
+pub Works-then : (s t u : DrainStage) → MarkerWorks s t → MarkerWorks t u → MarkerWorks s u
 Works-then s t u x y = record {
   later = later_then s t u x.later y.later;
   counted = omega (arith, x.counted, y.counted);
@@ -103,7 +103,7 @@ Works-then s t u x y = record {
 
 -- ---- steps that mark, trace and note nothing
 
-pub looks_then : (v u w : MarkerSeatView) → OnlyLooks v u → OnlyLooks u w → OnlyLooks v w
+pub looks_then : (v u w : MarkerSeatView) → MarkerOnlyLooks v u → MarkerOnlyLooks u w → MarkerOnlyLooks v w
 looks_then v u w x y = record {
   heap = y.heap ∙ x.heap;
   types = y.types ∙ x.types;
@@ -114,7 +114,7 @@ looks_then v u w x y = record {
   missed = λ a there. y.missed a (x.missed a there);
 }
 
-pub looks_work : (v w : MarkerSeatView) (h : ShareState) (n : NotesState) (d : Drained) → OnlyLooks v w → Works (stage v h n d) (stage w h n d)
+pub looks_work : (v w : MarkerSeatView) (h : ShareState) (n : NotesState) (d : Drained) → MarkerOnlyLooks v w → MarkerWorks (drain_stage v h n d) (drain_stage w h n d)
 looks_work v w h n d x = record {
   later = record {
     heap = x.heap;
@@ -145,7 +145,7 @@ looks_work v w h n d x = record {
 module _ (v w : MarkerSeatView) (h k : ShareState) (n : NotesState) (d e : Drained) (a : ℕ) (heap : w.heap ≡ v.heap) (types : w.types ≡ v.types)
     (marked : w.marked ≡ v.marked ++ a ∷ []) (traced : w.traced ≡ v.traced) (noted_same : w.noted ≡ v.noted) (done : w.done ≡ v.done) (missed : w.missed ≡ v.missed)
     (fits : h.refused ≤ last_count) where
-  marks_put : IsSameShare h k → put_of k ≡ put_of h ++ a ∷ [] → taken_by_share k ≡ taken_by_share h → k.refused ≡ h.refused → e ≡ d → Works (stage v h n d) (stage w k n e)
+  marks_put : IsSameShare h k → put_of k ≡ put_of h ++ a ∷ [] → taken_by_share k ≡ taken_by_share h → k.refused ≡ h.refused → e ≡ d → MarkerWorks (drain_stage v h n d) (drain_stage w k n e)
   marks_put lists put took refused same = record {
     later = record {
       heap = heap;
@@ -177,7 +177,7 @@ module _ (v w : MarkerSeatView) (h k : ShareState) (n : NotesState) (d e : Drain
     cause = λ told. inl (sym (ap (λ (x : Drained). x.overflow) same) ∙ told);
   }
 
-  marks_refused : IsSameShare h k → put_of k ≡ put_of h → taken_by_share k ≡ taken_by_share h → k.refused ≡ more_counted h.refused 1 → e ≡ record d { overflow = true } → Works (stage v h n d) (stage w k n e)
+  marks_refused : IsSameShare h k → put_of k ≡ put_of h → taken_by_share k ≡ taken_by_share h → k.refused ≡ more_counted h.refused 1 → e ≡ record d { overflow = true } → MarkerWorks (drain_stage v h n d) (drain_stage w k n e)
   marks_refused lists put took refused told = record {
     later = record {
       heap = heap;
@@ -203,7 +203,7 @@ module _ (v w : MarkerSeatView) (h k : ShareState) (n : NotesState) (d e : Drain
     cause = λ is. inr (inl (search (rules, refused, fits)));
   }
 
-  pub marks_work : Lists h d a k e → Works (stage v h n d) (stage w k n e)
+  pub marks_work : Lists h d a k e → MarkerWorks (drain_stage v h n d) (drain_stage w k n e)
   marks_work listed = elim listed [
     | inl put ↦ marks_put (same_pushed h k a put.0) (ap put_of put.0) (ap taken_by_share put.0) (ap (λ (x : ShareState). x.refused) put.0) put.1
     | inr refused ↦ marks_refused (same_refused h k refused.0) (ap put_of refused.0) (ap taken_by_share refused.0) (ap (λ (x : ShareState). x.refused) refused.0) refused.1
@@ -213,9 +213,9 @@ module _ (v w : MarkerSeatView) (h k : ShareState) (n : NotesState) (d e : Drain
 
 module _ (v w : MarkerSeatView) (h : ShareState) (n o : NotesState) (d e : Drained) (holder word : ℕ) (heap : w.heap ≡ v.heap) (types : w.types ≡ v.types)
     (marked : w.marked ≡ v.marked) (traced : w.traced ≡ v.traced) (new_pairs : List (ℕ × ℕ)) (pairs : w.noted ≡ v.noted ++ new_pairs)
-    (only : (p offset : ℕ) → Contains new_pairs (p, offset) → (p ≡ holder) × (offset ≡ word)) (done : Keeps v.done w.done) (missed : Keeps v.missed w.missed)
+    (only : (p offset : ℕ) → Contains new_pairs (p, offset) → (p ≡ holder) × (offset ≡ word)) (done : KeepsItems v.done w.done) (missed : KeepsItems v.missed w.missed)
     (is_note : IsNoteOf w h (note_of holder word)) (fits : n.refused ≤ last_count) where
-  later_note : Keeps n.notes o.notes → (e.overflow ≡ false → d.overflow ≡ false) → IsLater (stage v h n d) (stage w h o e)
+  later_note : KeepsItems n.notes o.notes → (e.overflow ≡ false → d.overflow ≡ false) → IsLater (drain_stage v h n d) (drain_stage w h o e)
   later_note kept overflow = record {
     heap = heap;
     types = types;
@@ -231,7 +231,7 @@ module _ (v w : MarkerSeatView) (h : ShareState) (n o : NotesState) (d e : Drain
     overflow = overflow;
   }
 
-  note_made : o ≡ noted n holder word → e ≡ d → Works (stage v h n d) (stage w h o e)
+  note_made : o ≡ noted n holder word → e ≡ d → MarkerWorks (drain_stage v h n d) (drain_stage w h o e)
   note_made made same =
       let notes : o.notes ≡ n.notes ++ note_of holder word ∷ [] = ap (λ (x : NotesState). x.notes) made in
       record {
@@ -255,7 +255,7 @@ module _ (v w : MarkerSeatView) (h : ShareState) (n o : NotesState) (d e : Drain
         cause = λ told. inl (sym (ap (λ (x : Drained). x.overflow) same) ∙ told);
       }
 
-  note_refused : o ≡ overflowed n → e ≡ record d { overflow = true } → Works (stage v h n d) (stage w h o e)
+  note_refused : o ≡ overflowed n → e ≡ record d { overflow = true } → MarkerWorks (drain_stage v h n d) (drain_stage w h o e)
   note_refused made told = record {
     later = later_note (keeps_all n.notes o.notes (ap (λ (x : NotesState). x.notes) made))
         (λ fine. absurd (true≢false (sym (ap (λ (x : Drained). x.overflow) told) ∙ fine)));
@@ -269,14 +269,14 @@ module _ (v w : MarkerSeatView) (h : ShareState) (n o : NotesState) (d e : Drain
     cause = λ is. inr (inr (ap (λ (x : NotesState). x.overflow) made));
   }
 
-  pub note_works : Notes n d holder word o e → Works (stage v h n d) (stage w h o e)
+  pub note_works : Notes n d holder word o e → MarkerWorks (drain_stage v h n d) (drain_stage w h o e)
   note_works made = elim made [ inl done ↦ note_made done.0 done.1 | inr refused ↦ note_refused refused.0 refused.1 ]
 
 -- ---- a claim, which is counted
 
 pub claim_works : (v w : MarkerSeatView) (h : ShareState) (n : NotesState) (d e : Drained) (a : ℕ) → w.heap ≡ v.heap → w.types ≡ v.types
     → w.marked ≡ v.marked → w.traced ≡ v.traced ++ a ∷ [] → w.noted ≡ v.noted → w.done ≡ v.done → w.missed ≡ v.missed
-    → e ≡ record d { traced = d.traced + 1 } → Works (stage v h n d) (stage w h n e)
+    → e ≡ record d { traced = d.traced + 1 } → MarkerWorks (drain_stage v h n d) (drain_stage w h n e)
 claim_works v w h n d e a heap types marked traced noted_same done missed counted = record {
   later = record {
     heap = heap;
@@ -304,8 +304,8 @@ claim_works v w h n d e a heap types marked traced noted_same done missed counte
 
 -- ---- whether more is left to do is told last
 
-pub works_with_more : (s : Stage) (v : MarkerSeatView) (h : ShareState) (n : NotesState) (d : Drained) (more : Bool) → Works s (stage v h n d)
-    → Works s (stage v h n (record d { more = more }))
+pub works_with_more : (s : DrainStage) (v : MarkerSeatView) (h : ShareState) (n : NotesState) (d : Drained) (more : Bool) → MarkerWorks s (drain_stage v h n d)
+    → MarkerWorks s (drain_stage v h n (record d { more = more }))
 works_with_more s v h n d more x = record {
   later = record {
     heap = x.later.heap;
@@ -332,8 +332,8 @@ works_with_more s v h n d more x = record {
 }
 
 -- an item was taken, and nothing else has changed
-pub take_works : (v : MarkerSeatView) (h k : ShareState) (n : NotesState) (d : Drained) → IsSameShare h k → put_of k ≡ put_of h → Keeps (taken_by_share h) (taken_by_share k)
-    → k.refused ≡ h.refused → Works (stage v h n d) (stage v k n d)
+pub take_works : (v : MarkerSeatView) (h k : ShareState) (n : NotesState) (d : Drained) → IsSameShare h k → put_of k ≡ put_of h → KeepsItems (taken_by_share h) (taken_by_share k)
+    → k.refused ≡ h.refused → MarkerWorks (drain_stage v h n d) (drain_stage v k n d)
 take_works v h k n d lists put took refused = record {
   later = record {
     heap = refl;
@@ -370,11 +370,11 @@ pub no_pair : (holder word p offset : ℕ) → Contains {X = ℕ × ℕ} [] (p, 
 no_pair holder word p offset there = absurd (omega (arith, there.1))
 
 -- the place of an item was noted, with nothing else noted
-pub item_noted : (v w : MarkerSeatView) (h : ShareState) (n o : NotesState) (d e : Drained) (a : ℕ) → OnlyLooks v w
-    → Contains (taken_by_share h) a → HasCause w a → n.refused ≤ last_count → Notes n d a 0 o e → Works (stage v h n d) (stage w h o e)
+pub item_noted : (v w : MarkerSeatView) (h : ShareState) (n o : NotesState) (d e : Drained) (a : ℕ) → MarkerOnlyLooks v w
+    → Contains (taken_by_share h) a → HasCauseToNote w a → n.refused ≤ last_count → Notes n d a 0 o e → MarkerWorks (drain_stage v h n d) (drain_stage w h o e)
 item_noted v w h n o d e a looks took why fits made =
     note_works v w h n o d e a 0 looks.heap looks.types looks.marked looks.traced [] (looks.noted ∙ sym (append-nil v.noted)) (no_pair a 0) looks.done
     looks.missed (inr (refl, (took, why))) fits made
 
-pub looks_not : (v : MarkerSeatView) → OnlyLooks v v
+pub looks_not : (v : MarkerSeatView) → MarkerOnlyLooks v v
 looks_not v = record { heap = refl; types = refl; marked = refl; traced = refl; noted = refl; done = λ a there. there; missed = λ a there. there }

@@ -8,7 +8,7 @@ use Rattle.mark_worklist.specs.Shares.{ShareState, taken_by_share}
 use Rattle.marker_crew.specs.declared.crew.CrewResult.{CrewResult}
 use Rattle.marker_crew.specs.declared.draining.Drained.{Drained}
 use Rattle.marker_crew.specs.Drains.{nothing_yet, AreDealtWith, IsIdle}
-use Rattle.marker_crew.specs.Stages.{stage, Works}
+use Rattle.marker_crew.specs.Stages.{drain_stage, MarkerWorks}
 
 -- a marker as it began: its seat, its share of the lists, and its notes
 pub record Marker : Type 0 where
@@ -26,8 +26,8 @@ pub record Ending : Type 0 where
 -- a marker that began so has drained, and ended so: it found the lists idle, or was told to stop, or took as many items as the
 -- heap has words
 pub record HasDrained (began : Marker) (end : Ending) : Type 0 where
-  pub works : Works (stage began.seat began.share began.notes nothing_yet) (stage end.seat end.share end.notes end.drained)
-  pub taken : AreDealtWith began.share (stage end.seat end.share end.notes end.drained)
+  pub works : MarkerWorks (drain_stage began.seat began.share began.notes nothing_yet) (drain_stage end.seat end.share end.notes end.drained)
+  pub taken : AreDealtWith began.share (drain_stage end.seat end.share end.notes end.drained)
   pub hand : end.seat.hand ≡ None
   pub most : end.drained.traced ≤ began.seat.count
   pub done : end.drained.more ≡ false → IsIdle end.share

@@ -12,22 +12,22 @@ use Rattle.page_words.specs.Roles.{kind_lists}
 use Rattle.page_words.specs.Markers.{MarkerSeatView}
 
 -- the hand, moved on to the next strong word or pair
-abbrev pub moved_on : MarkerSeatView → Option Hand
-moved_on v = each_hand (hand_moved (kind_lists v.types)) v.hand
+abbrev pub marker_moved_on : MarkerSeatView → Option Hand
+marker_moved_on v = each_hand (hand_moved (kind_lists v.types)) v.hand
 
 -- the hand is this far with the word of that role at the offset of the object at the place
-pub record IsAt (v : MarkerSeatView) (place offset : ℕ) (role : Role) (part : Part) : Type 0 where
+pub record MarkerIsAt (v : MarkerSeatView) (place offset : ℕ) (role : Role) (part : Part) : Type 0 where
   pub ty : ℕ
   pub is : v.hand ≡ Some (record { place = place; ty = ty; next = offset; part = part })
   pub role_is : role_at_hand (kind_lists v.types) (record { place = place; ty = ty; next = offset; part = part }) ≡ role
 
 -- the hand is at this traced word of the object at the place, of which nothing is read yet
-abbrev pub IsAtWord : MarkerSeatView → ℕ → TracedWord → Type 0
-IsAtWord v place (StrongAt offset) = IsAt v place offset StrongWord Read
-IsAtWord v place (PairAt offset) = IsAt v place offset KeyWord Read
+abbrev pub MarkerIsAtWord : MarkerSeatView → ℕ → TracedWord → Type 0
+MarkerIsAtWord v place (StrongAt offset) = MarkerIsAt v place offset StrongWord Read
+MarkerIsAtWord v place (PairAt offset) = MarkerIsAt v place offset KeyWord Read
 
 -- the hand wants the word at a, whose target it marks
-pub record IsAtTarget (v : MarkerSeatView) (a : ℕ) : Type 0 where
+pub record MarkerIsAtTarget (v : MarkerSeatView) (a : ℕ) : Type 0 where
   pub hand : Hand
   pub is : v.hand ≡ Some hand
   pub wants : wants_word hand hand.part a ≡ true

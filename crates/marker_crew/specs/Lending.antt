@@ -8,8 +8,8 @@ use Rattle.marker_crew.specs.contracts.crew.Crew.{the_row}
 use Rattle.marker_crew.specs.Crews.{CrewState}
 
 -- the owner's notes are those that r shows last
-abbrev pub LendsOwn : MutBor CrewState → MutBor NotesState → Fml
-LendsOwn c r = Lends the_row notes_row c r (λ n. record c.now { notes = slice_set c.now.notes 0 n })
+abbrev pub LendsOwnNotes : MutBor CrewState → MutBor NotesState → Fml
+LendsOwnNotes c r = Lends the_row notes_row c r (λ n. record c.now { notes = slice_set c.now.notes 0 n })
 
 -- the notes are those that r shows last, which are as many
 abbrev pub LendsNotes : MutBor CrewState → MutBor (List NotesState) → Fml

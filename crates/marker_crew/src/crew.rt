@@ -6,7 +6,7 @@ ghost use Rattle.std.specs.Arc.{arc_value};
 ghost use Rattle.std.specs.Borrow.{sem};
 ghost use Rattle.pair_notes.specs.Notes.{no_notes, notes_cleared};
 ghost use Rattle.marker_crew.specs.Crews.{IsCrew, started_with, HasJoined};
-ghost use Rattle.marker_crew.specs.Lending.{LendsOwn, LendsNotes};
+ghost use Rattle.marker_crew.specs.Lending.{LendsOwnNotes, LendsNotes};
 
 use crate::endings::{Begun, Ended};
 use crate::gate::Gate;
@@ -157,7 +157,7 @@ impl Crew {
 
     /// The owner's own notes.
     pub fn own_notes(&mut self) -> &mut Pairs
-        ensures* writes_back { sem 𝓛 (LendsOwn self.entry result) }
+        ensures* writes_back { sem 𝓛 (LendsOwnNotes self.entry result) }
         ensures value { result.now ≡ slice_index_or self.old.notes 0 result.now }
     {
         &mut self.notes[0]

@@ -2,7 +2,7 @@
 
 ghost use Rattle.std.specs.Prelude.{◌≡◌, ◌⊎◌, ◌≤◌, ◌+◌, true, false, None, length};
 ghost use Rattle.mark_worklist.specs.Shares.{taken_by_share};
-ghost use Rattle.marker_crew.specs.Stages.{stage, Works};
+ghost use Rattle.marker_crew.specs.Stages.{drain_stage, MarkerWorks};
 ghost use Rattle.marker_crew.specs.Drains.{nothing_yet, AreDealtWith, IsIdle};
 
 use crate::gate::{Gate, Manner};
@@ -39,9 +39,9 @@ pub fn drain<G: Gate>(
     requires heap { seat.old.heap ≡ words.now }
     requires types { types.now ≡ seat.old.types }
     requires hand { seat.old.hand ≡ None }
-    ensures works { Works (stage seat.old share.old notes.old nothing_yet)
-        (stage seat.new share.new notes.new result) }
-    ensures taken { AreDealtWith share.old (stage seat.new share.new notes.new result) }
+    ensures works { MarkerWorks (drain_stage seat.old share.old notes.old nothing_yet)
+        (drain_stage seat.new share.new notes.new result) }
+    ensures taken { AreDealtWith share.old (drain_stage seat.new share.new notes.new result) }
     ensures hand { seat.new.hand ≡ None }
     ensures most { result.traced ≤ budget }
     ensures done { result.more ≡ false → IsIdle share.new }

@@ -3,7 +3,7 @@
 ghost use Rattle.std.specs.Prelude.{◌≡◌, ◌⊎◌, ◌<◌, ◌≤◌, ◌+◌, ◌^◌, true, None, Contains};
 ghost use Rattle.marker_core.specs.Bodies.{holds};
 ghost use Rattle.mark_worklist.specs.Shares.{ShareState, taken_by_share};
-ghost use Rattle.marker_crew.specs.Stages.{stage, Works, IsDealtWith};
+ghost use Rattle.marker_crew.specs.Stages.{drain_stage, MarkerWorks, IsDealtWithIn};
 
 use crate::draining::Drained;
 use crate::gate::{AFTER_OBJECT, BEFORE_CLAIM, Gate, Manner};
@@ -33,9 +33,9 @@ pub(crate) fn deal_with<G: Gate>(
     requires hand { seat.old.hand ≡ None }
     requires few { drained.old.traced + 1 < 2 ^ 32 }
     requires item { Contains (taken_by_share share.old) place }
-    ensures works { Works (stage seat.old share.old notes.old drained.old)
-        (stage seat.new share.new notes.new drained.new) }
-    ensures dealt { IsDealtWith (stage seat.new share.new notes.new drained.new) place }
+    ensures works { MarkerWorks (drain_stage seat.old share.old notes.old drained.old)
+        (drain_stage seat.new share.new notes.new drained.new) }
+    ensures dealt { IsDealtWithIn (drain_stage seat.new share.new notes.new drained.new) place }
     ensures taken { taken_by_share share.new ≡ taken_by_share share.old }
     ensures hand { seat.new.hand ≡ None }
     ensures most { drained.new.traced ≤ drained.old.traced + 1 }
@@ -64,9 +64,9 @@ fn trace_known<G: Gate>(
     requires known { holds seat.old.known place ≡ true }
     requires few { drained.old.traced + 1 < 2 ^ 32 }
     requires item { Contains (taken_by_share share.old) place }
-    ensures works { Works (stage seat.old share.old notes.old drained.old)
-        (stage seat.new share.new notes.new drained.new) }
-    ensures dealt { IsDealtWith (stage seat.new share.new notes.new drained.new) place }
+    ensures works { MarkerWorks (drain_stage seat.old share.old notes.old drained.old)
+        (drain_stage seat.new share.new notes.new drained.new) }
+    ensures dealt { IsDealtWithIn (drain_stage seat.new share.new notes.new drained.new) place }
     ensures taken { taken_by_share share.new ≡ taken_by_share share.old }
     ensures hand { seat.new.hand ≡ None }
     ensures most { drained.new.traced ≤ drained.old.traced + 1 }
@@ -103,10 +103,10 @@ fn look_again(
     requires known { holds seat.old.known place ≡ true }
     requires failed { Contains seat.old.done place ⊎ Contains seat.old.missed place }
     ensures works { (h : ShareState) → Contains (taken_by_share h) place
-        → Works (stage seat.old h notes.old drained.old)
-        (stage seat.new h notes.new drained.new) }
+        → MarkerWorks (drain_stage seat.old h notes.old drained.old)
+        (drain_stage seat.new h notes.new drained.new) }
     ensures dealt { (h : ShareState)
-        → IsDealtWith (stage seat.new h notes.new drained.new) place }
+        → IsDealtWithIn (drain_stage seat.new h notes.new drained.new) place }
     ensures hand { seat.new.hand ≡ None }
     ensures count { drained.new.traced ≡ drained.old.traced }
 {

@@ -6,8 +6,8 @@ ghost use Rattle.marker_core.specs.Layout as layout;
 ghost use Rattle.pair_notes.specs.InHand.{hand_over, traced_in};
 ghost use Rattle.pair_notes.specs.Notes.{NotesState};
 ghost use Rattle.mark_worklist.specs.Shares.{taken_by_share};
-ghost use Rattle.marker_crew.specs.Stages.{stage, Works};
-ghost use Rattle.marker_crew.specs.Hands.{IsAtTarget, IsAtWord, moved_on};
+ghost use Rattle.marker_crew.specs.Stages.{drain_stage, MarkerWorks};
+ghost use Rattle.marker_crew.specs.Hands.{MarkerIsAtTarget, MarkerIsAtWord, marker_moved_on};
 
 use crate::draining::Drained;
 use crate::recording::{list, note};
@@ -33,8 +33,8 @@ pub(crate) fn trace_object(
     requires ty { ty < length types.now }
     requires traced { Contains seat.old.traced place }
     requires hand { seat.old.hand ≡ hand_over place ty (traced_in seat.old.types ty) }
-    ensures works { Works (stage seat.old share.old notes.old drained.old)
-        (stage seat.new share.new notes.new drained.new) }
+    ensures works { MarkerWorks (drain_stage seat.old share.old notes.old drained.old)
+        (drain_stage seat.new share.new notes.new drained.new) }
     ensures taken { taken_by_share share.new ≡ taken_by_share share.old }
     ensures hand { seat.new.hand ≡ None }
     ensures count { drained.new.traced ≡ drained.old.traced }
@@ -56,11 +56,11 @@ fn trace_word(
 )
     requires heap { seat.old.heap ≡ words.now }
     requires traced { Contains seat.old.traced place }
-    requires hand { IsAtWord seat.old place word }
-    ensures works { Works (stage seat.old share.old notes.old drained.old)
-        (stage seat.new share.new notes.new drained.new) }
+    requires hand { MarkerIsAtWord seat.old place word }
+    ensures works { MarkerWorks (drain_stage seat.old share.old notes.old drained.old)
+        (drain_stage seat.new share.new notes.new drained.new) }
     ensures taken { taken_by_share share.new ≡ taken_by_share share.old }
-    ensures hand { seat.new.hand ≡ moved_on seat.old }
+    ensures hand { seat.new.hand ≡ marker_moved_on seat.old }
     ensures count { drained.new.traced ≡ drained.old.traced }
 {
     seat.places_are_within();
@@ -81,11 +81,11 @@ fn trace_target(
     a: u32,
 )
     requires heap { seat.old.heap ≡ words.now }
-    requires target { IsAtTarget seat.old a }
-    ensures works { (n : NotesState) → Works (stage seat.old share.old n drained.old)
-        (stage seat.new share.new n drained.new) }
+    requires target { MarkerIsAtTarget seat.old a }
+    ensures works { (n : NotesState) → MarkerWorks (drain_stage seat.old share.old n drained.old)
+        (drain_stage seat.new share.new n drained.new) }
     ensures taken { taken_by_share share.new ≡ taken_by_share share.old }
-    ensures hand { seat.new.hand ≡ moved_on seat.old }
+    ensures hand { seat.new.hand ≡ marker_moved_on seat.old }
     ensures count { drained.new.traced ≡ drained.old.traced }
 {
     seat.places_are_within();
@@ -109,11 +109,11 @@ fn trace_pair(
 )
     requires heap { seat.old.heap ≡ words.now }
     requires traced { Contains seat.old.traced place }
-    requires hand { IsAtWord seat.old place (PairAt offset) }
-    ensures works { Works (stage seat.old share.old notes.old drained.old)
-        (stage seat.new share.new notes.new drained.new) }
+    requires hand { MarkerIsAtWord seat.old place (PairAt offset) }
+    ensures works { MarkerWorks (drain_stage seat.old share.old notes.old drained.old)
+        (drain_stage seat.new share.new notes.new drained.new) }
     ensures taken { taken_by_share share.new ≡ taken_by_share share.old }
-    ensures hand { seat.new.hand ≡ moved_on seat.old }
+    ensures hand { seat.new.hand ≡ marker_moved_on seat.old }
     ensures count { drained.new.traced ≡ drained.old.traced }
 {
     seat.places_are_within();

@@ -2,8 +2,8 @@
 
 ghost use Rattle.std.specs.Prelude.{◌≡◌, MatchOption};
 ghost use Rattle.mark_worklist.specs.Shares.{IsSameShare, put_of, taken_by_share};
-ghost use Rattle.marker_crew.specs.Drains.{IsIdle, IsTaken};
-ghost use Rattle.marker_crew.specs.Stages.{OnlyLooks};
+ghost use Rattle.marker_crew.specs.Drains.{IsIdle, IsOneTaken};
+ghost use Rattle.marker_crew.specs.Stages.{MarkerOnlyLooks};
 
 use crossbeam_utils::Backoff;
 use mark_worklist::Share;
@@ -19,10 +19,10 @@ pub(crate) fn await_item(words: &Words, seat: &mut MarkerSeat, share: &mut Share
     requires heap { seat.old.heap ≡ words.now }
     ensures taken { MatchOption result
         ((taken_by_share share.new ≡ taken_by_share share.old) × IsIdle share.new)
-        (λ a. IsTaken share.old a share.new) }
+        (λ a. IsOneTaken share.old a share.new) }
     ensures lists { IsSameShare share.old share.new }
     ensures same { (put_of share.new ≡ put_of share.old) × (share.new.refused ≡ share.old.refused) }
-    ensures looks { OnlyLooks seat.old seat.new }
+    ensures looks { MarkerOnlyLooks seat.old seat.new }
     ensures hand { seat.new.hand ≡ seat.old.hand }
 {
     let backoff = Backoff::new();
@@ -44,7 +44,7 @@ pub(crate) fn await_item(words: &Words, seat: &mut MarkerSeat, share: &mut Share
 pub(crate) fn next_item(share: &mut Share) -> Option<u32>
     ensures taken { MatchOption result
         ((taken_by_share share.new ≡ taken_by_share share.old) × IsIdle share.new)
-        (λ a. IsTaken share.old a share.new) }
+        (λ a. IsOneTaken share.old a share.new) }
     ensures lists { IsSameShare share.old share.new }
     ensures same { (put_of share.new ≡ put_of share.old) × (share.new.refused ≡ share.old.refused) }
 {

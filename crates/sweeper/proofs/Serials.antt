@@ -8,7 +8,7 @@ use Rattle.marker_core.specs.declared.states.Body.{Body}
 use Rattle.marker_core.specs.Bodies.{holds}
 use Rattle.page_space.specs.Seat.{SeatView, OnlyLooked}
 use Rattle.page_space.specs.Space.{HasNoStart}
-use Rattle.sweeper.specs.Sweeping.{swept_in, is_dead_in, IsDeadIn, AreDeadSerials, no_body}
+use Rattle.sweeper.specs.Sweeping.{swept_in, is_dead_in, IsDeadBetween, AreDeadSerials, no_body}
 use Rattle.gc_graph.specs.Members.{Contains-head, was_in, stays_in}
 use Rattle.sweeper.proofs.Places.{behind, outside_behind}
 
@@ -20,7 +20,7 @@ pub serials_none : (from until : ℕ) (v : SeatView) → HasNoStart v.bodies fro
 serials_none from until v none = record {
   dead = [];
   numbers_are = refl;
-  each = All-nil (IsDeadIn from until v);
+  each = All-nil (IsDeadBetween from until v);
   whole = λ b is. absurd (none b.place is.first is.last (b, is.there, refl));
   ascending = λ i j before low. absurd (omega arith);
 }
@@ -30,7 +30,7 @@ pub serials_kept : (a : ℕ) (v : SeatView) → holds v.dead a ≡ false → Are
 serials_kept a v alive = record {
   dead = [];
   numbers_are = refl;
-  each = All-nil (IsDeadIn a (a + 1) v);
+  each = All-nil (IsDeadBetween a (a + 1) v);
   whole = λ b is.
       let here : b.place ≡ a = omega (arith, is.first, is.last) in
       absurd (true≢false (sym is.dead ∙ ap (holds v.dead) here ∙ alive));
@@ -43,18 +43,18 @@ pub serials_one : (a : ℕ) (v : SeatView) (b : Body) → Contains v.bodies b �
 serials_one a v b there at gone alone = record {
   dead = b ∷ [];
   numbers_are = refl;
-  each = All-cons (IsDeadIn a (a + 1) v) b [] (record {
+  each = All-cons (IsDeadBetween a (a + 1) v) b [] (record {
     there = there;
     dead = ap (holds v.dead) at ∙ gone;
     first = omega arith;
     last = omega arith;
-  }) (All-nil (IsDeadIn a (a + 1) v));
+  }) (All-nil (IsDeadBetween a (a + 1) v));
   whole = λ c is. subst (λ x. Contains (b ∷ []) x) (alone c is.there (omega (arith, is.first, is.last))) (Contains-head b []);
   ascending = λ i j before low. absurd (omega arith);
 }
 
 -- a dead body that the second part tells was there at first
-was_dead : (from mid until : ℕ) (v : SeatView) (b : Body) → from ≤ mid → IsDeadIn mid until (swept_in from mid v) b → IsDeadIn from until v b
+was_dead : (from mid until : ℕ) (v : SeatView) (b : Body) → from ≤ mid → IsDeadBetween mid until (swept_in from mid v) b → IsDeadBetween from until v b
 was_dead from mid until v b early is = record {
   there = was_in (λ c. not (is_dead_in from mid v c)) v.bodies b is.there;
   dead = sym (outside_behind from mid v.dead b.place is.first) ∙ is.dead;
@@ -63,7 +63,7 @@ was_dead from mid until v b early is = record {
 }
 
 -- a dead body from the middle on is told by the second part
-is_still_dead : (from mid until : ℕ) (v : SeatView) (b : Body) → mid ≤ b.place → IsDeadIn from until v b → IsDeadIn mid until (swept_in from mid v) b
+is_still_dead : (from mid until : ℕ) (v : SeatView) (b : Body) → mid ≤ b.place → IsDeadBetween from until v b → IsDeadBetween mid until (swept_in from mid v) b
 is_still_dead from mid until v b late is = record {
   there =
       stays_in (λ c. not (is_dead_in from mid v c)) v.bodies b is.there
@@ -109,14 +109,14 @@ serials_on from mid until v xs ys early late first second = record {
   numbers_are =
       ap (λ l. l ++ ys) first.numbers_are ∙ ap (λ l. map serial_of first.dead ++ l) second.numbers_are ∙ sym (map-append serial_of first.dead second.dead);
   each =
-      All-append (IsDeadIn from until v) first.dead second.dead
-      (All-weaker (IsDeadIn from mid v) (IsDeadIn from until v) (λ b is. record {
+      All-append (IsDeadBetween from until v) first.dead second.dead
+      (All-weaker (IsDeadBetween from mid v) (IsDeadBetween from until v) (λ b is. record {
         there = is.there;
         dead = is.dead;
         first = is.first;
         last = omega (arith, is.last);
       }) first.dead first.each)
-      (All-weaker (IsDeadIn mid until (swept_in from mid v)) (IsDeadIn from until v) (λ b is. was_dead from mid until v b early is) second.dead second.each);
+      (All-weaker (IsDeadBetween mid until (swept_in from mid v)) (IsDeadBetween from until v) (λ b is. was_dead from mid until v b early is) second.dead second.each);
   whole = λ b is. elim (cases_lt b.place mid) [
     | inl low ↦
         Contains-append_left first.dead second.dead b
@@ -124,13 +124,13 @@ serials_on from mid until v xs ys early late first second = record {
     | inr high ↦ Contains-append_right first.dead second.dead b (second.whole b (is_still_dead from mid until v b high is))
   ];
   ascending =
-      ascends mid first.dead second.dead (All-weaker (IsDeadIn from mid v) (λ b. b.place < mid) (λ b is. is.last) first.dead first.each)
-      (All-weaker (IsDeadIn mid until (swept_in from mid v)) (λ b. mid ≤ b.place) (λ b is. is.first) second.dead second.each) first.ascending
+      ascends mid first.dead second.dead (All-weaker (IsDeadBetween from mid v) (λ b. b.place < mid) (λ b is. is.last) first.dead first.each)
+      (All-weaker (IsDeadBetween mid until (swept_in from mid v)) (λ b. mid ≤ b.place) (λ b is. is.first) second.dead second.each) first.ascending
       second.ascending;
 }
 
 -- headers were looked at: the same are dead
-dead_looked : (from until : ℕ) (v w : SeatView) → OnlyLooked v w → (b : Body) → IsDeadIn from until w b → IsDeadIn from until v b
+dead_looked : (from until : ℕ) (v w : SeatView) → OnlyLooked v w → (b : Body) → IsDeadBetween from until w b → IsDeadBetween from until v b
 dead_looked from until v w same b is = record {
   there = subst (λ bs. Contains bs b) (ap (λ (x : SeatView). x.bodies) same) is.there;
   dead = ap (λ (x : SeatView). holds x.dead b.place) (sym same) ∙ is.dead;
@@ -143,7 +143,7 @@ pub serials_looked : (from until : ℕ) (v w : SeatView) (numbers : List ℕ) �
 serials_looked from until v w numbers same are = record {
   dead = are.dead;
   numbers_are = are.numbers_are;
-  each = All-weaker (IsDeadIn from until w) (IsDeadIn from until v) (λ b is. dead_looked from until v w same b is) are.dead are.each;
+  each = All-weaker (IsDeadBetween from until w) (IsDeadBetween from until v) (λ b is. dead_looked from until v w same b is) are.dead are.each;
   whole = λ b is. are.whole b (dead_looked from until w v (sym same) b is);
   ascending = are.ascending;
 }

@@ -76,7 +76,7 @@ all_swept v =
 -- ---- what a sweep tells
 
 -- one of the bodies, dead, with its place there
-pub record IsDeadIn (from until : ℕ) (v : SeatView) (b : Body) : Type 0 where
+pub record IsDeadBetween (from until : ℕ) (v : SeatView) (b : Body) : Type 0 where
   pub there : Contains v.bodies b
   pub dead : holds v.dead b.place ≡ true
   pub first : from ≤ b.place
@@ -90,13 +90,13 @@ no_body = record { place = 0; ty = 0; size = 0; serial = 0; fields = [] }
 pub record AreDeadSerials (from until : ℕ) (v : SeatView) (numbers : List ℕ) : Type 0 where
   pub dead : List Body
   pub numbers_are : numbers ≡ map (λ b. b.serial) dead
-  pub each : All (IsDeadIn from until v) dead
-  pub whole : (b : Body) → IsDeadIn from until v b → Contains dead b
+  pub each : All (IsDeadBetween from until v) dead
+  pub whole : (b : Body) → IsDeadBetween from until v b → Contains dead b
   pub ascending :
       (i j : ℕ) → i < j → j < length dead → (slice_index_or dead i no_body).place < (slice_index_or dead j no_body).place
 
 -- these numbers follow those that were told before
-pub record TellsDead (from until : ℕ) (v : SeatView) (before after : List ℕ) : Type 0 where
+pub record TellsDeadSerials (from until : ℕ) (v : SeatView) (before after : List ℕ) : Type 0 where
   pub numbers : List ℕ
   pub are : AreDeadSerials from until v numbers
   pub follow : after ≡ before ++ numbers
@@ -109,5 +109,5 @@ dead_between from until v = count_by (is_dead_in from until v) v.bodies
 -- more than before
 pub record Sweeps (from until : ℕ) (old : SeatView) (before : List ℕ) (new : SeatView) (after : List ℕ) : Type 0 where
   pub view : OnlyLooked (swept_in from until old) new
-  pub told : TellsDead from until old before after
+  pub told : TellsDeadSerials from until old before after
   pub few : (end : ℕ) → until ≤ end → length after + dead_between until end new ≤ length before + dead_between from end old

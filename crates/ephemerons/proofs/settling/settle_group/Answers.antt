@@ -1,7 +1,7 @@
 use Rattle.std.proofs.Common.{◌≡◌, ℕ, ◌<◌, ◌||◌, None, get_or, length, sym, ap, ◌∙◌, subst, inl, inr, arith}
 use Rattle.std.proofs.lemmas.List.{get_or_default}
 use Rattle.pair_notes.specs.Notes.{NotesState, group_at, no_notes, note_at, note_of}
-use Rattle.ephemerons.specs.Fixpoint.{Stage, stage, IsSettled}
+use Rattle.ephemerons.specs.Fixpoint.{Stage, stage, NoteIsSettled}
 use Rattle.ephemerons.proofs.Looks.{joined, noted_stays, Looks-then, looks_more}
 use Rattle.ephemerons.proofs.Onward.{onward_then}
 use Rattle.ephemerons.proofs.settling.settle_group.Goals.{then-found, else-found}
@@ -18,7 +18,7 @@ loop-j-preserved g c =
       looks = rw either (Looks-then c.args.types.now None _ _ _ c.loop-j.found c.settle_at-more.result c.loop-j.invariant.looks c.settle_at-more.ensures.looks);
       looked = onward_then c.args.types.now _ _ _ c.settle_at-more.ensures.looks.works.kept c.loop-j.invariant.looked c.settle_at-more.ensures.looked;
       settled = λ none. looks_more
-          (λ (s : Stage) (k : ℕ). k < length (group_at s.groups c.args.i).notes → IsSettled c.args.types.now s.view (note_at (group_at s.groups c.args.i) k))
+          (λ (s : Stage) (k : ℕ). k < length (group_at s.groups c.args.i).notes → NoteIsSettled c.args.types.now s.view (note_at (group_at s.groups c.args.i) k))
           (noted_stays c.args.types.now c.args.i) before after c.loop-j.found c.settle_at-more.result c.loop-j.j c.loop-j.invariant.settled c.settle_at-more.ensures.looks.still
           c.settle_at-more.ensures.settled (sym either ∙ none);
     }
@@ -37,5 +37,5 @@ returns-clause-settled g c none note there =
       ap (λ (g : NotesState). length g.notes) counted,
       ap (λ (g : NotesState). length g.notes) same,
     ) in
-    subst (IsSettled c.args.types.now c.loop-j.seat) (get_or_default group.notes there.0 (note_of 0 0) note there.1 ∙ there.2)
+    subst (NoteIsSettled c.args.types.now c.loop-j.seat) (get_or_default group.notes there.0 (note_of 0 0) note there.1 ∙ there.2)
     (c.loop-j.invariant.settled none there.0 low there.1)

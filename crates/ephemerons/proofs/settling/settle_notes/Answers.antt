@@ -2,7 +2,7 @@ use Rattle.std.proofs.Common.{◌≡◌, ℕ, ◌||◌, None, sym, ◌∙◌, in
 use Rattle.std.specs.List.{Contains}
 use Rattle.pair_notes.specs.declared.notes.Note.{Note}
 use Rattle.pair_notes.specs.Notes.{group_at}
-use Rattle.ephemerons.specs.Fixpoint.{Stage, stage, IsSettled}
+use Rattle.ephemerons.specs.Fixpoint.{Stage, stage, NoteIsSettled}
 use Rattle.ephemerons.proofs.Looks.{joined, group_stays, Looks-then, looks_more}
 use Rattle.ephemerons.proofs.Onward.{onward_then}
 use Rattle.ephemerons.proofs.settling.settle_notes.Goals.{then-found, else-found}
@@ -19,7 +19,7 @@ loop-i-preserved g c =
       looks = rw either (Looks-then c.args.types.now None _ _ _ c.loop-i.found c.settle_group-more.result c.loop-i.invariant.looks c.settle_group-more.ensures.looks);
       looked = onward_then c.args.types.now _ _ _ c.settle_group-more.ensures.looks.works.kept c.loop-i.invariant.looked c.settle_group-more.ensures.looked;
       settled = λ none. looks_more
-          (λ (s : Stage) (k : ℕ). (note : Note) → Contains (group_at s.groups k).notes note → IsSettled c.args.types.now s.view note)
+          (λ (s : Stage) (k : ℕ). (note : Note) → Contains (group_at s.groups k).notes note → NoteIsSettled c.args.types.now s.view note)
           (group_stays c.args.types.now) before after c.loop-i.found c.settle_group-more.result c.loop-i.i c.loop-i.invariant.settled c.settle_group-more.ensures.looks.still
           c.settle_group-more.ensures.settled (sym either ∙ none);
     }

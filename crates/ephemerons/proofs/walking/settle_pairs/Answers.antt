@@ -7,7 +7,7 @@ use Rattle.marker_core.specs.declared.states.Body.{Body}
 use Rattle.page_words.specs.BodyPlaces.{same_body}
 use Rattle.pair_notes.specs.BodyGraph.{HasType}
 use Rattle.pair_notes.specs.Notes.{note_of}
-use Rattle.ephemerons.specs.Fixpoint.{Stage, stage, IsSettled}
+use Rattle.ephemerons.specs.Fixpoint.{Stage, stage, NoteIsSettled}
 use Rattle.ephemerons.proofs.OnlyLooks.{ground_looked, looks_none}
 use Rattle.ephemerons.proofs.PairWords.{told_pair}
 use Rattle.ephemerons.proofs.Looks.{joined, settled_stays, Looks-then, looks_more}
@@ -44,7 +44,7 @@ loop-word-preserved g c =
       ground = c.settle_pair-more.ensures.ground;
       looks = rw either (Looks-then c.args.types.now None _ _ _ c.loop-word.found c.settle_pair-more.result c.loop-word.invariant.looks c.settle_pair-more.ensures.looks);
       settled = λ none. looks_more
-          (λ (s : Stage) (k : ℕ). IsSettled c.args.types.now s.view (note_of c.args.a (get_or c.pair_words-pairs.result.now k 0)))
+          (λ (s : Stage) (k : ℕ). NoteIsSettled c.args.types.now s.view (note_of c.args.a (get_or c.pair_words-pairs.result.now k 0)))
           (λ s t same k settled. settled_stays c.args.types.now s t same (note_of c.args.a (get_or c.pair_words-pairs.result.now k 0)) settled) before after c.loop-word.found c.settle_pair-more.result c.loop-word.word-index c.loop-word.invariant.settled
           c.settle_pair-more.ensures.looks.still c.settle_pair-more.ensures.settled (sym either ∙ none);
     }
@@ -58,5 +58,5 @@ returns-clause-settled g c none offset has =
     let ty : c.type_of-ty.result ≡ has.0.ty = sym known.3 ∙ ap (λ (b : Body). b.ty) one in
     let among : Contains told offset =
     subst (λ l. Contains l offset) (sym (c.pair_words-pairs.ensures ∙ ap (λ t. offsets_of_kind Pair (declared_kinds c.args.types.now t)) ty)) has.3 in
-    subst (λ o. IsSettled c.args.types.now c.loop-word.seat (note_of c.args.a o)) (get_or_default told among.0 0 offset among.1 ∙ among.2)
+    subst (λ o. NoteIsSettled c.args.types.now c.loop-word.seat (note_of c.args.a o)) (get_or_default told among.0 0 offset among.1 ∙ among.2)
     (c.loop-word.invariant.settled none among.0 (omega (arith, among.1, c.loop-word-test.false)))

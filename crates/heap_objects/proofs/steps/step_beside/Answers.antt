@@ -9,7 +9,7 @@ use Rattle.mark_worklist.specs.Families.{at, nobody}
 use Rattle.mark_worklist.specs.Shares.{ShareState}
 use Rattle.marker_crew.specs.Notes.{NotesState}
 use Rattle.marker_crew.specs.Drains.{nothing_yet, AreDealtWith}
-use Rattle.marker_crew.specs.Stages.{stage, Works}
+use Rattle.marker_crew.specs.Stages.{drain_stage, MarkerWorks}
 use Rattle.heap_objects.specs.Crews.{IsStepped, TellsRisen}
 use Rattle.heap_objects.specs.Marking.{GreyView, grey_of}
 use Rattle.heap_objects.proofs.AloneSteps.{own_is, grey_stepped}
@@ -33,11 +33,11 @@ returns-clause-stepped c =
     let told : TellsRisen c.refused-refused.result (record g.marking { list = as_own (set g.marking.list.shares 0 k) }) n = c.tell_refused.ensures.told in
     let last : (at (set g.marking.list.shares 0 k) 0).refused ≡ k.refused =
     ap (λ (s : ShareState). s.refused) (get_or-set_same g.marking.list.shares 0 k nobody (omega (arith, one))) in
-    let works : Works (stage (new_marker v) (at g.marking.list.shares 0) g.notes nothing_yet) (stage step.marker k o d) =
-    subst (λ (h : ShareState). Works (stage (new_marker v) h g.notes nothing_yet) (stage step.marker k o d)) share
-    (subst (λ (x : NotesState). Works (stage (new_marker v) c.own_share.result.now x nothing_yet) (stage step.marker k o d)) own step.works) in
-    let taken : AreDealtWith (at g.marking.list.shares 0) (stage step.marker k o d) =
-    subst (λ (h : ShareState). AreDealtWith h (stage step.marker k o d)) share step.taken in
+    let works : MarkerWorks (drain_stage (new_marker v) (at g.marking.list.shares 0) g.notes nothing_yet) (drain_stage step.marker k o d) =
+    subst (λ (h : ShareState). MarkerWorks (drain_stage (new_marker v) h g.notes nothing_yet) (drain_stage step.marker k o d)) share
+    (subst (λ (x : NotesState). MarkerWorks (drain_stage (new_marker v) c.own_share.result.now x nothing_yet) (drain_stage step.marker k o d)) own step.works) in
+    let taken : AreDealtWith (at g.marking.list.shares 0) (drain_stage step.marker k o d) =
+    subst (λ (h : ShareState). AreDealtWith h (drain_stage step.marker k o d)) share step.taken in
     subst (λ (x : GreyView). IsStepped v g w x d.traced) (sym (grey_stepped (record c.args.grey.now { found = c.found_traced.result }) n o c.requires.own))
     (has_stepped_beside v g step.marker k o d n w c.requires.way c.requires.crew c.requires.running c.requires.differ c.requires.pushes step.seat c.bodies_lie_apart-2.ensures works taken
     (ap (λ (x : Marking). x.list) told.rest) (ap (λ (x : Marking). x.on) told.rest) (

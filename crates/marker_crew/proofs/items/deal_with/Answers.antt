@@ -1,7 +1,7 @@
 use Rattle.std.proofs.Common.{◌≡◌, ◌≤◌, false, sym, ap, ◌∙◌, subst, inl, inr, arith}
 use Rattle.page_words.specs.Markers.{MarkerSeatView, start_read}
 use Rattle.page_words.specs.Seat.{Heap}
-use Rattle.marker_crew.specs.Stages.{stage, OnlyLooks}
+use Rattle.marker_crew.specs.Stages.{drain_stage, MarkerOnlyLooks}
 use Rattle.marker_crew.proofs.Claiming.{start_looks, start_missed}
 use Rattle.marker_crew.proofs.Dealing.{note_deals}
 use Rattle.marker_crew.proofs.Working.{Works-then, looks_work, item_noted, looks_not}
@@ -15,7 +15,7 @@ returns-then-is_start-clause-works g c =
     let h = c.args.share.now in
     let n = c.args.notes.now in
     let d = c.args.drained.now in
-    Works-then (stage v h n d) (stage u h n d) (stage c.trace_known.new.seat c.trace_known.new.share c.trace_known.new.notes c.trace_known.new.drained)
+    Works-then (drain_stage v h n d) (drain_stage u h n d) (drain_stage c.trace_known.new.seat c.trace_known.new.share c.trace_known.new.notes c.trace_known.new.drained)
     (looks_work v u h n d (start_looks v u c.args.place c.is_start.result c.is_start.ensures.view)) c.trace_known.ensures.works
 
 pub returns-else-place-count-clause-works : goal.returns-else-place-count-clause-works
@@ -38,10 +38,10 @@ returns-else-place-count-clause-works g c = elim c.else-place-count.branch [
         ap (λ (x : MarkerSeatView). x.count) w.seat-is,
       ) in
       item_noted v u c.args.share.now c.args.notes.now c.note.new.notes c.args.drained.now c.note.new.drained c.args.place
-      (subst (OnlyLooks v) (sym w.seat-is) (looks_not v)) c.requires.item (inr far) c.note.ensures.fits c.note.ensures.noted)
+      (subst (MarkerOnlyLooks v) (sym w.seat-is) (looks_not v)) c.requires.item (inr far) c.note.ensures.fits c.note.ensures.noted)
 ]
 
 pub returns-else-place-count-clause-dealt : goal.returns-else-place-count-clause-dealt
 returns-else-place-count-clause-dealt g c =
-    note_deals (stage c.else-place-count.seat c.args.share.now c.note.new.notes c.note.new.drained) c.args.notes.now c.args.drained.now c.args.place
+    note_deals (drain_stage c.else-place-count.seat c.args.share.now c.note.new.notes c.note.new.drained) c.args.notes.now c.args.drained.now c.args.place
     c.note.ensures.noted

@@ -4,7 +4,7 @@ use Rattle.std.proofs.lemmas.Bool.{true≢false}
 use Rattle.gc_graph.specs.Members.{holds_from}
 use Rattle.marker_core.specs.Layout.{has_traced}
 use Rattle.page_words.specs.Markers.{MarkerSeatView}
-use Rattle.marker_crew.specs.Stages.{stage}
+use Rattle.marker_crew.specs.Stages.{drain_stage}
 use Rattle.marker_crew.proofs.Dealing.{note_deals}
 use Rattle.marker_crew.proofs.Reading.{header_looks, header_missed, rest_noted, traced_is_done}
 use Rattle.marker_crew.proofs.Working.{looks_work, item_noted}
@@ -26,7 +26,7 @@ returns-then-not-has_traced-clause-works c h took =
 
 pub returns-then-not-has_traced-clause-dealt : goal.returns-then-not-has_traced-clause-dealt
 returns-then-not-has_traced-clause-dealt c h =
-    note_deals (stage c.header.new.seat h c.note.new.notes c.note.new.drained) c.args.notes.now c.args.drained.now c.args.place c.note.ensures.noted
+    note_deals (drain_stage c.header.new.seat h c.note.new.notes c.note.new.drained) c.args.notes.now c.args.drained.now c.args.place c.note.ensures.noted
 
 pub returns-else-not-has_traced-clause-works : goal.returns-else-not-has_traced-clause-works
 returns-else-not-has_traced-clause-works c h took =

@@ -4,7 +4,7 @@ use Rattle.std.proofs.lemmas.List.Elements.{Contains-push}
 use Rattle.pair_notes.specs.InHand.{hand_over, traced_in}
 use Rattle.marker_crew.specs.declared.draining.Drained.{Drained}
 use Rattle.page_words.specs.Markers.{MarkerSeatView}
-use Rattle.marker_crew.specs.Stages.{Stage, stage, OnlyLooks}
+use Rattle.marker_crew.specs.Stages.{DrainStage, drain_stage, MarkerOnlyLooks}
 use Rattle.marker_crew.proofs.Claiming.{claimed_heap, claimed_types, claimed_marked, claimed_traced, claimed_noted, claimed_done, claimed_missed, claimed_hand, failed_is, failed_looks}
 use Rattle.marker_crew.proofs.Dealing.{note_deals}
 use Rattle.marker_crew.proofs.Reading.{header_looks, rest_noted, neither_is_missed, traced_is_done}
@@ -24,7 +24,7 @@ returns-then-not-has_mark-clause-works g c =
 
 pub returns-then-not-has_mark-clause-dealt : goal.returns-then-not-has_mark-clause-dealt
 returns-then-not-has_mark-clause-dealt g c =
-    note_deals (stage c.header-header.new.seat c.args.share.now c.note.new.notes c.note.new.drained) c.args.notes.now c.args.drained.now c.args.place
+    note_deals (drain_stage c.header-header.new.seat c.args.share.now c.note.new.notes c.note.new.drained) c.args.notes.now c.args.drained.now c.args.place
     c.note.ensures.noted
 
 pub trace_object-requires-clause-traced : goal.trace_object-requires-clause-traced
@@ -62,10 +62,10 @@ returns-then-claim_as-clause-works g c =
     let found = c.claim_as.ensures.view in
     let same : eqb found.0 header ≡ true = sym found.2 ∙ c.if-claim_as.true in
     let is = c.header-header.ensures.view in
-    let last : Stage = stage c.trace_object.new.seat c.trace_object.new.share c.trace_object.new.notes c.trace_object.new.drained in
-    Works-then (stage v h n d) (stage u h n d) last
+    let last : DrainStage = drain_stage c.trace_object.new.seat c.trace_object.new.share c.trace_object.new.notes c.trace_object.new.drained in
+    Works-then (drain_stage v h n d) (drain_stage u h n d) last
     (looks_work v u h n d (header_looks v u a header is (rest_noted v u a header c.requires.hand is)))
-    (Works-then (stage u h n d) (stage w h n e) last
+    (Works-then (drain_stage u h n d) (drain_stage w h n e) last
     (claim_works u w h n d e a (claimed_heap u w a header found.0 found.3 same) (claimed_types u w a header found.0 found.3 same)
     (claimed_marked u w a header found.0 found.3 same) (claimed_traced u w a header found.0 found.3 same) (claimed_noted u w a header found.0 found.3 same)
     (claimed_done u w a header found.0 found.3 same) (claimed_missed u w a header found.0 found.3 same) refl)
@@ -90,10 +90,10 @@ returns-else-claim_as-clause-works g c =
     let d = c.args.drained.now in
     let found = c.claim_as.ensures.view in
     let is = c.header-header.ensures.view in
-    let looks : OnlyLooks v w =
+    let looks : MarkerOnlyLooks v w =
     looks_then v u w (header_looks v u c.args.place c.header-header.result is (rest_noted v u c.args.place c.header-header.result c.requires.hand is))
     (failed_looks u w c.args.place c.header-header.result found.0 found.3 (sym found.2 ∙ c.if-claim_as.false)) in
-    Works-then (stage v h n d) (stage w h n d) (stage c.look_again.new.seat h c.look_again.new.notes c.look_again.new.drained)
+    Works-then (drain_stage v h n d) (drain_stage w h n d) (drain_stage c.look_again.new.seat h c.look_again.new.notes c.look_again.new.drained)
     (looks_work v w h n d looks) (c.look_again.ensures.works h c.requires.item)
 
 pub returns-else-claim_as-clause-dealt : goal.returns-else-claim_as-clause-dealt

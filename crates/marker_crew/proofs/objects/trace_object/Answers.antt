@@ -5,7 +5,7 @@ use Rattle.type_table.specs.TracedWords.{traced_words_of}
 use Rattle.gc_graph.specs.State.{ObjectType}
 use Rattle.pair_notes.specs.HandPath.{hand_last, told_length}
 use Rattle.pair_notes.specs.InHand.{traced_in}
-use Rattle.marker_crew.specs.Stages.{stage}
+use Rattle.marker_crew.specs.Stages.{drain_stage}
 use Rattle.marker_crew.proofs.TracedWords.{at_each_word, at_next_word}
 use Rattle.marker_crew.proofs.Working.{Works-then}
 use Rattle.marker_crew.proofs.objects.trace_object.Goals as goal
@@ -23,9 +23,9 @@ loop-word-preserved c =
     let types : List ObjectType = c.args.seat.now.types in
     let told : List TracedWord = c.traced_words-word-items.result.now in
     record {
-      works = Works-then (stage c.args.seat.now c.args.share.now c.args.notes.now c.args.drained.now)
-          (stage c.loop-word.seat c.loop-word.share c.loop-word.notes c.loop-word.drained)
-          (stage c.trace_word.new.seat c.trace_word.new.share c.trace_word.new.notes c.trace_word.new.drained) c.loop-word.invariant.works
+      works = Works-then (drain_stage c.args.seat.now c.args.share.now c.args.notes.now c.args.drained.now)
+          (drain_stage c.loop-word.seat c.loop-word.share c.loop-word.notes c.loop-word.drained)
+          (drain_stage c.trace_word.new.seat c.trace_word.new.share c.trace_word.new.notes c.trace_word.new.drained) c.loop-word.invariant.works
           c.trace_word.ensures.works;
       taken = c.trace_word.ensures.taken ∙ c.loop-word.invariant.taken;
       hand = at_next_word types c.loop-word.seat c.loop-word.invariant.works.later.types c.args.place c.args.ty told

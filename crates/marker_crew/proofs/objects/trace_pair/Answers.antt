@@ -5,7 +5,7 @@ use Rattle.marker_core.specs.declared.states.Hand.{Hand}
 use Rattle.marker_core.specs.declared.states.Part.TheVariants.{Read}
 use Rattle.marker_core.specs.Layout.{has_mark}
 use Rattle.page_words.specs.Markers.{MarkerSeatView}
-use Rattle.marker_crew.specs.Stages.{stage}
+use Rattle.marker_crew.specs.Stages.{drain_stage}
 use Rattle.marker_crew.proofs.Reading.{read_looks, key_in_hand, key_marked, none_noted, pair_noted, header_done, header_missed, header_looks, value_target}
 use Rattle.marker_crew.proofs.Working.{Works-then, looks_work, note_works, one_pair}
 use Rattle.marker_crew.proofs.objects.trace_pair.Goals as goal
@@ -53,9 +53,9 @@ returns-then-has_mark-clause-works c =
     let held = key_in_hand v u c.args.place c.args.offset c.read.result c.in-Some.key c.requires.hand c.read.ensures.view c.in-Some.ensures in
     let mark : has_mark c.header.result ≡ true = sym c.has_mark.ensures ∙ c.if-has_mark.true in
     let none = none_noted u x c.args.place c.args.offset c.requires.hand.ty c.in-Some.key c.header.result held c.header.ensures.view mark in
-    Works-then (stage v h n d) (stage u h n d) (stage c.trace_target.new.seat c.trace_target.new.share n c.trace_target.new.drained)
+    Works-then (drain_stage v h n d) (drain_stage u h n d) (drain_stage c.trace_target.new.seat c.trace_target.new.share n c.trace_target.new.drained)
     (looks_work v u h n d (read_looks v u c.read.result c.read.ensures.view))
-    (Works-then (stage u h n d) (stage x h n d) (stage c.trace_target.new.seat c.trace_target.new.share n c.trace_target.new.drained)
+    (Works-then (drain_stage u h n d) (drain_stage x h n d) (drain_stage c.trace_target.new.seat c.trace_target.new.share n c.trace_target.new.drained)
     (looks_work u x h n d (header_looks u x c.in-Some.key c.header.result c.header.ensures.view none)) (c.trace_target.ensures.works n))
 
 pub returns-else-has_mark-clause-works : goal.returns-else-has_mark-clause-works
@@ -72,7 +72,7 @@ returns-else-has_mark-clause-works c =
     let is = c.header.ensures.view in
     let traced : x.traced ≡ u.traced = ap (λ (s : MarkerSeatView). s.traced) is in
     let before : u.traced ≡ v.traced = ap (λ (s : MarkerSeatView). s.traced) c.read.ensures.view in
-    Works-then (stage v h n d) (stage u h n d) (stage x h c.note.new.notes c.note.new.drained)
+    Works-then (drain_stage v h n d) (drain_stage u h n d) (drain_stage x h c.note.new.notes c.note.new.drained)
     (looks_work v u h n d (read_looks v u c.read.result c.read.ensures.view))
     (note_works u x h n c.note.new.notes d c.note.new.drained c.args.place c.args.offset (ap (λ (s : MarkerSeatView). s.heap) is)
     (ap (λ (s : MarkerSeatView). s.types) is) (ap (λ (s : MarkerSeatView). s.marked) is) traced ((c.args.place, c.args.offset) ∷ []) noted
