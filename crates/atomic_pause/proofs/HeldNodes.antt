@@ -10,7 +10,7 @@ use Rattle.marker_core.specs.declared.states.Body.{Body}
 use Rattle.marker_core.specs.Bodies.{holds}
 use Rattle.marker_core.specs.SeatSteps.{unmarked_places}
 use Rattle.page_words.specs.Seat.{SeatView, side}
-use Rattle.prefinalizer_effects.specs.PlacesInWords.{IsJudged, kept_of}
+use Rattle.prefinalizer_effects.specs.PlacesInWords.{BodiesAreJudged, kept_of}
 use Rattle.prefinalizer_effects.specs.Nodes.{place_of, body_of, bodies_of, IsThere, IsHeld}
 use Rattle.prefinalizer_effects.specs.NodeChanges.{bodies-same, bodies-condemn}
 use Rattle.prefinalizer_effects.specs.NodePlaces.{node_body}
@@ -29,7 +29,7 @@ dead_if_unmarked v b is there =
       and-true true = refl
       and-true false = refl
 
-pub judged_after : (types : List ObjectType) (root may : ℕ → Type 0) (v new : SeatView) → MarksReachable types root may v new → IsJudged new
+pub judged_after : (types : List ObjectType) (root may : ℕ → Type 0) (v new : SeatView) → MarksReachable types root may v new → BodiesAreJudged new
 judged_after types root may v new marks b there = dead_if_unmarked new b marks.dead there
 
 pub held_judged : (nodes : List Node) (types : List ObjectType) (root may : ℕ → Type 0) (v new : SeatView) → v.dead ≡ [] → IsHeld nodes v → MarksReachable types root may v new

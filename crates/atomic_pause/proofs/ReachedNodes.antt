@@ -28,7 +28,7 @@ use Rattle.prefinalizer_effects.specs.AmongNodes.{IsAmong, among_cases, among_le
 use Rattle.prefinalizer_effects.specs.NodePlaces.{live_is_there, node_body, body_node, same_node}
 use Rattle.prefinalizer_effects.specs.NodeLives.{live_if_there, none_dead}
 use Rattle.prefinalizer_effects.specs.ClosedPlaces.{reached_place, reached_from, reached_some, kept_closed, places_closed}
-use Rattle.prefinalizer_effects.specs.KeptNodes.{kept_parts, kept_from, kept_low, slot_of_root, slot_place, slot_live, refers_within}
+use Rattle.prefinalizer_effects.specs.KeptNodes.{kept_parts, kept_from, kept_low, slot_of_root, slot_node_place, slot_node_live, refers_within}
 use Rattle.atomic_pause.specs.Marking.{HoldsRoots, IsHitPlace, IsScanned, IsSharedPlace, IsOtherRoot, MarksReachable}
 use Rattle.atomic_pause.specs.Pausing.{NamePlaces, IsMayWithin, IsKeptBetween, IsPausable, hits_at, hits_in, shared_roots}
 use Rattle.atomic_pause.specs.MembersOf.{member_among, among_member, member_below}
@@ -164,11 +164,11 @@ has_marked setup nodes slots places may others other v new view on valid held na
   valid = valid;
   held = held.bodies;
   live = λ n is. elim (among_cases (slot_targets slots) others n is) [
-    | inl slot ↦ slot_live nodes slots n names.live (slot_of_root slots n slot)
+    | inl slot ↦ slot_node_live nodes slots n names.live (slot_of_root slots n slot)
     | inr found ↦ are.live n found
   ];
   placed = λ n is. elim (among_cases (slot_targets slots) others n is) [
-    | inl slot ↦ inl (subst (λ l. Contains l (Some (place_of nodes n))) (sym names.places_are) (slot_place nodes slots n (slot_of_root slots n slot)))
+    | inl slot ↦ inl (subst (λ l. Contains l (Some (place_of nodes n))) (sym names.places_are) (slot_node_place nodes slots n (slot_of_root slots n slot)))
     | inr found ↦ inr (are.placed n found)
   ];
   low = λ n is. elim (among_cases (members may) others n is) [

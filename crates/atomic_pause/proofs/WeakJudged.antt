@@ -21,7 +21,7 @@ use Rattle.page_words.specs.Seat.{SeatView, OnlyLooked}
 use Rattle.weak_clearing.specs.Space.{SpaceView, IsSpaceOf, IsSpaceIn, extents_of_bodies}
 use Rattle.weak_clearing.specs.Clearing.{clear_words, clear_body, with_weak_cleared, clear_pair_words, clear_pairs_of, with_pairs_cleared}
 use Rattle.prefinalizer_effects.specs.Nodes.{AreOfValid, place_of, word_of, IsHeld}
-use Rattle.prefinalizer_effects.specs.PlacesInWords.{IsJudged, kept_of, places_of}
+use Rattle.prefinalizer_effects.specs.PlacesInWords.{BodiesAreJudged, kept_of, places_of_slots}
 use Rattle.prefinalizer_effects.specs.Judgement.{nodes_after}
 use Rattle.prefinalizer_effects.specs.NodeChanges.{bodies-same}
 use Rattle.prefinalizer_effects.specs.NodeLives.{life-condemn, object-condemn, place-condemn, there-condemn, live_if_there, dead_judged, none_dead}
@@ -175,7 +175,7 @@ space_marked space types root may v new marks is =
     subst (λ heap. IsSpaceIn space heap (extents_of_bodies new.bodies)) (sym marks.heap)
     (subst (λ bodies. IsSpaceIn space v.heap (extents_of_bodies bodies)) (sym marks.bodies) is)
 
-pub judged_cleared : (v : SeatView) → IsJudged v → IsJudged (both_cleared v)
+pub judged_cleared : (v : SeatView) → BodiesAreJudged v → BodiesAreJudged (both_cleared v)
 judged_cleared v is =
     judged_changed (clear_pairs_of v.types v.marked) (pairs_keep v.types v.marked) (with_weak_cleared v)
     (judged_changed (clear_body v.types v.marked) (weak_keeps v.types v.marked) v is)
@@ -188,8 +188,8 @@ weak_after kept nodes weak = map (clear_slot (is_dead_at (condemn kept nodes))) 
 
 -- a slot whose place isn't marked is cleared where its node is dead
 pub weak_places_after : (nodes : List Node) (v : SeatView) (weak : List (Option ℕ)) → All (λ slot. ForSome slot (IsLive nodes)) weak
-    → map (clear_slot (λ a. not (holds v.marked a))) (places_of nodes weak)
-    ≡ places_of (nodes_after (kept_of (holds v.marked) nodes) nodes) (weak_after (kept_of (holds v.marked) nodes) nodes weak)
+    → map (clear_slot (λ a. not (holds v.marked a))) (places_of_slots nodes weak)
+    ≡ places_of_slots (nodes_after (kept_of (holds v.marked) nodes) nodes) (weak_after (kept_of (holds v.marked) nodes) nodes weak)
 weak_places_after nodes v [] live = refl
 weak_places_after nodes v (None ∷ weak) live = ap (λ l. None ∷ l) (weak_places_after nodes v weak (All-tail (λ slot. ForSome slot (IsLive nodes)) None weak live))
 weak_places_after nodes v (Some n ∷ weak) live =
@@ -197,7 +197,7 @@ weak_places_after nodes v (Some n ∷ weak) live =
     let after : List Node = nodes_after kept nodes in
     let is : IsLive nodes n = All-head (λ slot. ForSome slot (IsLive nodes)) (Some n) weak live n refl in
     let unmarked : Bool = not (holds v.marked (place_of nodes n)) in
-    let rest : List (Option ℕ) = map (clear_slot (λ a. not (holds v.marked a))) (places_of nodes weak) in
+    let rest : List (Option ℕ) = map (clear_slot (λ a. not (holds v.marked a))) (places_of_slots nodes weak) in
     ap (λ p. cond unmarked None (Some p) ∷ rest) (sym (place-after kept nodes n)) ∙ ap (λ s. s ∷ rest) (named unmarked (place_of after) n)
     ∙ ap (λ b. option_map (place_of after) (cond b None (Some n)) ∷ rest) (sym (tells_unmarked nodes v n is))
     ∙ ap (λ l. option_map (place_of after) (clear_slot (is_dead_at (condemn kept nodes)) (Some n)) ∷ l)
@@ -208,12 +208,12 @@ weak_places_after nodes v (Some n ∷ weak) live =
 
 -- prefinalizers leave each node its place and its life
 weak_stay : (kept : List Bool) (nodes new : List Node) (weak : List (Option ℕ)) → HaveStayed (nodes_after kept nodes) new
-    → places_of (nodes_after kept nodes) (weak_after kept nodes weak) ≡ places_of new (map (clear_slot (is_dead_at new)) weak)
+    → places_of_slots (nodes_after kept nodes) (weak_after kept nodes weak) ≡ places_of_slots new (map (clear_slot (is_dead_at new)) weak)
 weak_stay kept nodes new [] stayed = refl
 weak_stay kept nodes new (None ∷ weak) stayed = ap (λ l. None ∷ l) (weak_stay kept nodes new weak stayed)
 weak_stay kept nodes new (Some n ∷ weak) stayed =
     let after : List Node = nodes_after kept nodes in
-    let rest : List (Option ℕ) = places_of after (weak_after kept nodes weak) in
+    let rest : List (Option ℕ) = places_of_slots after (weak_after kept nodes weak) in
     let dead : is_dead_at (condemn kept nodes) n ≡ is_dead_at new n = ap is_dead (sym (stayed.life n ∙ life-after kept nodes n)) in
     ap (λ d. option_map (place_of after) (cond d None (Some n)) ∷ rest) dead
     ∙ ap (λ s. s ∷ rest) (place (is_dead_at new n)) ∙ ap (λ l. option_map (place_of new) (clear_slot (is_dead_at new) (Some n)) ∷ l) (weak_stay kept nodes new weak stayed) where
@@ -222,9 +222,9 @@ weak_stay kept nodes new (Some n ∷ weak) stayed =
       place false = ap (λ p. Some p) (sym (stayed.place n))
 
 -- the places that weak slots hold after the pause
-pub weak_left_is : (nodes new : List Node) (v : SeatView) (weak places : List (Option ℕ)) → AreLive nodes (slot_targets weak) → places ≡ places_of nodes weak
+pub weak_left_is : (nodes new : List Node) (v : SeatView) (weak places : List (Option ℕ)) → AreLive nodes (slot_targets weak) → places ≡ places_of_slots nodes weak
     → HaveStayed (nodes_after (kept_of (holds v.marked) nodes) nodes) new
-    → map (clear_slot (λ a. not (holds v.marked a))) places ≡ places_of new (map (clear_slot (is_dead_at new)) weak)
+    → map (clear_slot (λ a. not (holds v.marked a))) places ≡ places_of_slots new (map (clear_slot (is_dead_at new)) weak)
 weak_left_is nodes new v weak places live are stayed =
     ap (map (clear_slot (λ a. not (holds v.marked a)))) are ∙ weak_places_after nodes v weak (slots_live nodes weak live)
     ∙ weak_stay (kept_of (holds v.marked) nodes) nodes new weak stayed

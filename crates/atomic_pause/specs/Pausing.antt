@@ -18,13 +18,13 @@ use Rattle.marker_core.specs.Bodies.{holds}
 use Rattle.page_words.specs.Seat.{SeatView}
 use Rattle.prefinalizer_effects.specs.KeyNodes.{IsKeyIn}
 use Rattle.prefinalizer_effects.specs.Nodes.{place_of}
-use Rattle.prefinalizer_effects.specs.PlacesInWords.{places_of}
+use Rattle.prefinalizer_effects.specs.PlacesInWords.{places_of_slots}
 use Rattle.prefinalizer_effects.specs.Judgement.{nodes_after}
 
 -- the slots name live nodes, and these are the places of what they name
 pub record NamePlaces (nodes : List Node) (slots places : List (Option ℕ)) : Type 0 where
   pub live : AreLive nodes (slot_targets slots)
-  pub places_are : places ≡ places_of nodes slots
+  pub places_are : places ≡ places_of_slots nodes slots
 
 -- the nodes that have a word at an address of the stack
 abbrev pub hits_at : List Node → List ℕ → List ℕ

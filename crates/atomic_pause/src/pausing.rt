@@ -17,7 +17,7 @@ ghost use Rattle.ephemerons.specs.UnderWay.{IsReadyToEnd};
 ghost use Rattle.ephemerons.specs.Fixpoint.{IsUnrefused};
 ghost use Rattle.ephemerons.specs.Notes.{group_at, refusals_in};
 ghost use Rattle.prefinalizer_effects.specs.Nodes.{AreOfValid, IsHeld};
-ghost use Rattle.prefinalizer_effects.specs.PlacesInWords.{places_of};
+ghost use Rattle.prefinalizer_effects.specs.PlacesInWords.{places_of_slots};
 ghost use Rattle.prefinalizer_effects.specs.Prepared.{setup_in_space, IsPrepared};
 ghost use Rattle.atomic_pause.specs.Marking.{LooksEarlyAt};
 ghost use Rattle.atomic_pause.specs.Pausing.{NamePlaces, IsMayWithin, hits_in};
@@ -71,7 +71,7 @@ pub fn pause(parts: Parts, notes: &mut [Pairs], stack: &[u64], precise: bool) ->
         parts.entry.registry.now (registry_left parts.exit).now }
     ensures weak { (slots : List (Option ℕ)) →
         NamePlaces parts.entry.nodes.now.value slots parts.entry.weak.now →
-        (weak_left parts.exit).now ≡ places_of (nodes_left parts.exit).now.value
+        (weak_left parts.exit).now ≡ places_of_slots (nodes_left parts.exit).now.value
         (map (clear_slot (is_dead_at (nodes_left parts.exit).now.value)) slots) }
     ensures region { IsPausedRegion (nodes_left parts.exit).now.value
         parts.entry.region.now parts.entry.pass.now

@@ -20,7 +20,7 @@ use Rattle.gc_graph.specs.CycleSteps.{IsPause, is_marking, is_stack_refused}
 use Rattle.callback_table.specs.Registry.{RegistryView, registration_of, registrations_of}
 use Rattle.heap_roots.specs.Pausing.{IsPaused, hits_in}
 use Rattle.sweeper.specs.Sweeping.{SweepView, cursor_at}
-use Rattle.heap_roots.specs.PlacesInWords.{places_of, IsJudged}
+use Rattle.heap_roots.specs.PlacesInWords.{places_of_slots, BodiesAreJudged}
 use Rattle.heap_roots.specs.Judgement.{nodes_after}
 use Rattle.heap_roots.specs.Nodes.{place_of}
 use Rattle.heap_roots.specs.WeakNodes.{life-after, place-after, length-after, live-after, dead-after, count-stays}
@@ -117,7 +117,7 @@ began_sweep mid new between after is setup phase sweep cursor = record {
 }
 
 began_marks : (new : ObjectsView) (after : CycleView) (s : SweepView) → after.phase ≡ Sweeping → after.sweep ≡ record s { cursor = 0 } → IsAtRest new
-    → IsJudged new.seat → HasMarks after.phase (cursor_at new.shape after.sweep) after.rest.may new
+    → BodiesAreJudged new.seat → HasMarks after.phase (cursor_at new.shape after.sweep) after.rest.may new
 began_marks new after s phase sweep rest judged =
     let none : cursor_at new.shape after.sweep ≡ 0 = ap (cursor_at new.shape) sweep ∙ (let e : 0 * new.shape.page_words ≡ 0 = omega arith in e) in
     subst (λ ph. HasMarks ph (cursor_at new.shape after.sweep) after.rest.may new) (sym phase) (
@@ -148,9 +148,9 @@ pub record Pauses
       (members s.cycle.rest.may ++ strong_region_targets s.cycle.rest.region ++ hits_in (is_precise want) s.objects.nodes s.handles.stack.addresses) s.objects.nodes new.nodes
       (registry_of s.cycle) (registry_of after)
   pub sizes : (n : ℕ) → IsLive s.objects.nodes n → size_of (node_at new.nodes n) ≡ size_of (node_at s.objects.nodes n)
-  pub handles_left : left ≡ record s.handles { weak_places = places_of new.nodes left.weak; weak = map (clear_slot (is_dead_at new.nodes)) s.handles.weak }
+  pub handles_left : left ≡ record s.handles { weak_places = places_of_slots new.nodes left.weak; weak = map (clear_slot (is_dead_at new.nodes)) s.handles.weak }
   pub rests : IsAtRest new
-  pub judged_marks : IsJudged new.seat
+  pub judged_marks : BodiesAreJudged new.seat
   pub phase : after.phase ≡ Sweeping
   pub sweep : after.sweep ≡ record s.cycle.sweep { cursor = 0 }
   pub rest : after.rest ≡ paused_from new.nodes s.cycle.rest
@@ -268,7 +268,7 @@ module _
           ordinal = ordinal;
           tied = record {
             slots = ap (λ (k : HandlesView). k.places) is.handles_left ∙ is.ready.tied.slots ∙ sym (places-same (place_of new.nodes) (place_of old_nodes) h.slots places)
-                ∙ sym (ap (λ (k : HandlesView). places_of new.nodes k.slots) is.handles_left);
+                ∙ sym (ap (λ (k : HandlesView). places_of_slots new.nodes k.slots) is.handles_left);
             weak = ap (λ (k : HandlesView). k.weak_places) is.handles_left;
             stack = subst (λ (k : HandlesView). HoldsWords new.nodes k.stack) (sym is.handles_left)
                 (words_held old_nodes new.nodes h.stack

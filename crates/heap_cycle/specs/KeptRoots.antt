@@ -7,7 +7,7 @@ use Rattle.gc_graph.specs.Valid.{IsMay, HasMay}
 use Rattle.marker_core.specs.Bodies.{holds}
 use Rattle.sweeper.specs.Sweeping.{cursor_at}
 use Rattle.heap_roots.specs.AmongNodes.{IsAmong, among_left}
-use Rattle.heap_roots.specs.KeptNodes.{place_slot, root_of_slot, slot_live}
+use Rattle.heap_roots.specs.KeptNodes.{place_slot, root_of_slot, slot_node_live}
 use Rattle.heap_roots.specs.Nodes.{place_of}
 use Rattle.heap_roots.specs.Marks.{HasMarking, HasMarks}
 use Rattle.heap_cycle.specs.declared.parts.Parts.{Parts}
@@ -35,4 +35,4 @@ slots_kept s p ready marking there =
     subst (λ q. holds s.objects.seat.may q ≡ true) named.2
     (root_kept s named.0 ready marking
     (among_left _ (strong_region_targets s.cycle.rest.region) named.0 (among_left (slot_targets slots) owned named.0 (root_of_slot slots named.0 named.1)))
-    (slot_live s.objects.nodes slots named.0 ready.valid.slots named.1))
+    (slot_node_live s.objects.nodes slots named.0 ready.valid.slots named.1))

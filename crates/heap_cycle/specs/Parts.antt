@@ -7,7 +7,7 @@ use Rattle.gc_graph.specs.Valid.{IsValid}
 use Rattle.gc_graph.specs.Outcomes.{answered}
 use Rattle.callback_table.specs.Registry.{registered, registrations_of}
 use Rattle.sweeper.specs.Sweeping.{cursor_at}
-use Rattle.heap_roots.specs.PlacesInWords.{places_of}
+use Rattle.heap_roots.specs.PlacesInWords.{places_of_slots}
 use Rattle.heap_cycle.specs.declared.parts.Parts.{Parts}
 use Rattle.heap_roots.specs.Objects.{HaveCallbacks, setup_of_objects}
 use Rattle.heap_roots.specs.Stack.{HoldsWords}
@@ -54,8 +54,8 @@ unregistered count s = record s { cycle = record s.cycle { registered = take (le
 -- its words; the sweep and the marks are those of the phase, with what may be kept and how many objects were traced; and no more
 -- nodes were made than commands were answered, and at most 16 registrations for each
 pub record AreTied (s : Parts) : Type 0 where
-  pub slots : s.handles.places ≡ places_of s.objects.nodes s.handles.slots
-  pub weak : s.handles.weak_places ≡ places_of s.objects.nodes s.handles.weak
+  pub slots : s.handles.places ≡ places_of_slots s.objects.nodes s.handles.slots
+  pub weak : s.handles.weak_places ≡ places_of_slots s.objects.nodes s.handles.weak
   pub stack : HoldsWords s.objects.nodes s.handles.stack
   pub registered : All (IsPlaced s.objects.nodes (length s.objects.callbacks)) s.cycle.registered
   pub few : length s.cycle.registered + length s.cycle.ran ≤ 16 * s.cycle.rest.ordinal

@@ -13,7 +13,7 @@ use Rattle.gc_graph.specs.Valid.{AreLive}
 use Rattle.callback_table.specs.declared.registry.Registered.{Registered}
 use Rattle.sweeper.specs.Sweeping.{cursor_at}
 use Rattle.heap_roots.specs.Nodes.{place_of, AreOfValid}
-use Rattle.heap_roots.specs.PlacesInWords.{places_of}
+use Rattle.heap_roots.specs.PlacesInWords.{places_of_slots}
 use Rattle.heap_roots.specs.Objects.{IsLiveAt, ObjectsView, setup_of_objects, StaysAt}
 use Rattle.heap_cycle.specs.declared.parts.Parts.{Parts}
 use Rattle.heap_cycle.specs.Views.{CycleView, IsPlaced, IsSweepOf}
@@ -31,11 +31,11 @@ valid_nodes s ready = (state_of s, ready.valid, refl)
 -- ---- slots
 
 -- slots that hold the places of what they name do so one by one
-place_held : (nodes : List Node) (places slots : List (Option ℕ)) (p : ℕ) → places ≡ places_of nodes slots → get_or places p None ≡ option_map (place_of nodes) (get_or slots p None)
+place_held : (nodes : List Node) (places slots : List (Option ℕ)) (p : ℕ) → places ≡ places_of_slots nodes slots → get_or places p None ≡ option_map (place_of nodes) (get_or slots p None)
 place_held nodes places slots p held =
     ap (λ l. get_or l p None) held ∙ elim (cases_lt p (length slots)) [
       | inl low ↦ get_or-map (λ (slot : Option ℕ). option_map (place_of nodes) slot) slots p None None low
-      | inr past ↦ get_or_past (places_of nodes slots) p None (omega (arith, past, length-map slots (λ (slot : Option ℕ). option_map (place_of nodes) slot)))
+      | inr past ↦ get_or_past (places_of_slots nodes slots) p None (omega (arith, past, length-map slots (λ (slot : Option ℕ). option_map (place_of nodes) slot)))
           ∙ sym (ap (option_map (place_of nodes)) (get_or_past slots p None past))
     ]
 
@@ -50,7 +50,7 @@ placed : (place : ℕ → ℕ) (slot : Option ℕ) (a : ℕ) → option_map plac
 placed place None a e = cc
 placed place (Some n) a e = (n, refl, (let same : place n ≡ a = cc in same))
 
-named_held : (nodes : List Node) (places slots : List (Option ℕ)) (p a : ℕ) → places ≡ places_of nodes slots → AreLive nodes (slot_targets slots) → get_or places p None ≡ Some a
+named_held : (nodes : List Node) (places slots : List (Option ℕ)) (p a : ℕ) → places ≡ places_of_slots nodes slots → AreLive nodes (slot_targets slots) → get_or places p None ≡ Some a
     → (n : ℕ) × (get_or slots p None ≡ Some n) × IsLiveAt nodes n a
 named_held nodes places slots p a held live is =
     let named = placed (place_of nodes) (get_or slots p None) a (sym (place_held nodes places slots p held) ∙ is) in
@@ -81,7 +81,7 @@ pub tied_slot : (s : Parts) (p : ℕ) (target : Option (ℕ × ℕ))
     → option_map (λ (t : ℕ × ℕ). t.0) target ≡ option_map (place_of s.objects.nodes) (option_map (λ (t : ℕ × ℕ). t.1) target)
     → AreTied s → AreTied (counted (record s { handles = put_in s.handles p target }))
 tied_slot s p target is tied = record {
-  slots = ap (λ l. set l p (option_map (λ (t : ℕ × ℕ). t.0) target)) tied.slots ∙ ap (λ x. set (places_of s.objects.nodes s.handles.slots) p x) is
+  slots = ap (λ l. set l p (option_map (λ (t : ℕ × ℕ). t.0) target)) tied.slots ∙ ap (λ x. set (places_of_slots s.objects.nodes s.handles.slots) p x) is
       ∙ sym (map-set (λ (slot : Option ℕ). option_map (place_of s.objects.nodes) slot) s.handles.slots p (option_map (λ (t : ℕ × ℕ). t.1) target));
   weak = tied.weak;
   stack = tied.stack;
@@ -96,7 +96,7 @@ tied_slot s p target is tied = record {
 -- slot q gets what slot p holds
 pub tied_copy : (s : Parts) (p q : ℕ) → AreTied s → AreTied (counted (record s { handles = copied_in s.handles p q }))
 tied_copy s p q tied = record {
-  slots = ap (λ l. set l q (get_or s.handles.places p None)) tied.slots ∙ ap (λ x. set (places_of s.objects.nodes s.handles.slots) q x) (slot_place s p tied)
+  slots = ap (λ l. set l q (get_or s.handles.places p None)) tied.slots ∙ ap (λ x. set (places_of_slots s.objects.nodes s.handles.slots) q x) (slot_place s p tied)
       ∙ sym (map-set (λ (slot : Option ℕ). option_map (place_of s.objects.nodes) slot) s.handles.slots q (get_or s.handles.slots p None));
   weak = tied.weak;
   stack = tied.stack;
@@ -112,7 +112,7 @@ tied_copy s p q tied = record {
 pub tied_weak : (s : Parts) (w p : ℕ) → AreTied s → AreTied (counted (record s { handles = weakened_in s.handles w p }))
 tied_weak s w p tied = record {
   slots = tied.slots;
-  weak = ap (λ l. set l w (get_or s.handles.places p None)) tied.weak ∙ ap (λ x. set (places_of s.objects.nodes s.handles.weak) w x) (slot_place s p tied)
+  weak = ap (λ l. set l w (get_or s.handles.places p None)) tied.weak ∙ ap (λ x. set (places_of_slots s.objects.nodes s.handles.weak) w x) (slot_place s p tied)
       ∙ sym (map-set (λ (slot : Option ℕ). option_map (place_of s.objects.nodes) slot) s.handles.weak w (get_or s.handles.slots p None));
   stack = tied.stack;
   registered = tied.registered;

@@ -12,7 +12,7 @@ use Rattle.gc_graph.specs.ValidLaw.{EmptyIsValid}
 use Rattle.cross_thread_region.specs.Histories.{slots_of}
 use Rattle.cross_thread_region.specs.PlacedNodes.{named_is_target}
 use Rattle.page_words.specs.Seat.{Heap, empty_view}
-use Rattle.heap_cycle.specs.PlacesInWords.{places_of}
+use Rattle.heap_cycle.specs.PlacesInWords.{places_of_slots}
 use Rattle.heap_cycle.specs.Objects.{HaveCallbacks, ObjectsView}
 use Rattle.heap_cycle.specs.Notes.{NotesState, no_notes}
 use Rattle.heap_cycle.specs.Marking.{IsCleared, no_grey, refused_in}
@@ -29,7 +29,7 @@ use Rattle.heap_cycle.specs.declared.shared.Shared.{Shared}
 use Rattle.heap_engine.specs.Going.{AreTotalsOf, HasTold}
 use Rattle.heap_engine.specs.View.{no_refusals}
 
-null_places : (n : ℕ) → replicate n None ≡ places_of [] (replicate n None)
+null_places : (n : ℕ) → replicate n None ≡ places_of_slots [] (replicate n None)
 null_places zero = refl
 null_places (suc n) = ap (λ l. None ∷ l) (null_places n)
 

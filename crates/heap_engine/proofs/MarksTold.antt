@@ -20,7 +20,7 @@ use Rattle.cross_thread_region.specs.PlacedNodes.{strong_target_placed, strong_t
 use Rattle.marker_core.specs.Bodies.{holds}
 use Rattle.heap_cycle.specs.Sweeping.{cursor_at}
 use Rattle.heap_cycle.specs.AmongNodes.{among_cases}
-use Rattle.heap_cycle.specs.KeptNodes.{slot_of_root, slot_live, kept_parts, kept_from}
+use Rattle.heap_cycle.specs.KeptNodes.{slot_of_root, slot_node_live, kept_parts, kept_from}
 use Rattle.heap_cycle.specs.Nodes.{place_of}
 use Rattle.heap_cycle.specs.PlacesInWords.{kept_of}
 use Rattle.heap_cycle.specs.Marks.{HasMarks, HasMarking, IsOut}
@@ -77,7 +77,7 @@ slots_marked s history tied live marked n root =
     let place : Contains s.handles.places (Some (place_of nodes n)) =
     subst (λ places. Contains places (Some (place_of nodes n))) (sym tied.slots)
     (Contains-map (λ (x : Option ℕ). option_map (place_of nodes) x) s.handles.slots (Some n) slot) in
-    kept_from (holds s.objects.seat.marked) nodes n (slot_live nodes s.handles.slots n live slot) (marked.slots (place_of nodes n) place)
+    kept_from (holds s.objects.seat.marked) nodes n (slot_node_live nodes s.handles.slots n live slot) (marked.slots (place_of nodes n) place)
 
 -- and so is what the region's do
 shared_marked : (s : Parts) (history : List PlacedEntry) → HasRegion s history → AreLive s.objects.nodes (region_targets s.cycle.rest.region) → AreSlotsMarked s history

@@ -16,7 +16,7 @@ use Rattle.callback_table.specs.declared.registry.Registered.{Registered}
 use Rattle.callback_table.specs.Registry.{registrations_of, registered}
 use Rattle.heap_cycle.specs.Sweeping.{cursor_at}
 use Rattle.heap_cycle.specs.Nodes.{place_of}
-use Rattle.heap_cycle.specs.PlacesInWords.{places_of}
+use Rattle.heap_cycle.specs.PlacesInWords.{places_of_slots}
 use Rattle.heap_cycle.specs.Stack.{HoldsWords}
 use Rattle.heap_cycle.specs.Objects.{with_made, ObjectsView, setup_of_objects, StaysAt}
 use Rattle.heap_cycle.specs.Handles.{put_in, HandlesView}
@@ -72,12 +72,12 @@ step_made s mid new after left p t extra place number numbers lines same found c
       };
     }))
 
-places_on : (nodes : List Node) (x : Node) (slots : List (Option ℕ)) → All (λ slot. ForSome slot (IsLive nodes)) slots → places_of (nodes ++ x ∷ []) slots ≡ places_of nodes slots
+places_on : (nodes : List Node) (x : Node) (slots : List (Option ℕ)) → All (λ slot. ForSome slot (IsLive nodes)) slots → places_of_slots (nodes ++ x ∷ []) slots ≡ places_of_slots nodes slots
 places_on nodes x [] live = refl
 places_on nodes x (None ∷ slots) live = ap (λ l. None ∷ l) (places_on nodes x slots (All-tail (λ slot. ForSome slot (IsLive nodes)) None slots live))
 places_on nodes x (Some n ∷ slots) live =
     let is : IsLive nodes n = All-head (λ slot. ForSome slot (IsLive nodes)) (Some n) slots live n refl in
-    ap (λ p. Some p ∷ places_of (nodes ++ x ∷ []) slots) (place-old nodes x n (there_below nodes n (live_is_there nodes n is)))
+    ap (λ p. Some p ∷ places_of_slots (nodes ++ x ∷ []) slots) (place-old nodes x n (there_below nodes n (live_is_there nodes n is)))
     ∙ ap (λ l. Some (place_of nodes n) ∷ l) (places_on nodes x slots (All-tail (λ slot. ForSome slot (IsLive nodes)) (Some n) slots live))
 
 -- the registrations hold the places of their nodes, the new ones that of the new node
@@ -132,11 +132,11 @@ tied_made s new after left p t place number x ready low marks grey setup counts 
     let is : AreTied (counted (record s { objects = new; handles = after; cycle = made_cycle s t place })) = record {
       slots = ap (λ (k : HandlesView). k.places) put
           ∙ ap (λ l. set l p (Some place)) (tied.slots ∙ sym (places_on old x h.slots (slots_live old h.slots ready.valid.slots)))
-          ∙ ap (λ a. set (places_of now h.slots) p (Some a)) (sym here)
+          ∙ ap (λ a. set (places_of_slots now h.slots) p (Some a)) (sym here)
           ∙ sym (map-set (λ (slot : Option ℕ). option_map (place_of now) slot) h.slots p (Some number))
-          ∙ sym (ap (λ (k : HandlesView). places_of new.nodes k.slots) put ∙ ap (λ (ns : List Node). places_of ns slots) nodes);
+          ∙ sym (ap (λ (k : HandlesView). places_of_slots new.nodes k.slots) put ∙ ap (λ (ns : List Node). places_of_slots ns slots) nodes);
       weak = ap (λ (k : HandlesView). k.weak_places) put ∙ tied.weak ∙ sym (places_on old x h.weak (slots_live old h.weak ready.valid.weak))
-          ∙ sym (ap (λ (k : HandlesView). places_of new.nodes k.weak) put ∙ ap (λ (ns : List Node). places_of ns h.weak) nodes);
+          ∙ sym (ap (λ (k : HandlesView). places_of_slots new.nodes k.weak) put ∙ ap (λ (ns : List Node). places_of_slots ns h.weak) nodes);
       stack = subst (λ (k : HandlesView). HoldsWords new.nodes k.stack) (sym put)
           (subst (λ (ns : List Node). HoldsWords ns h.stack) (sym nodes)
           (words_held old now h.stack

@@ -27,7 +27,7 @@ use Rattle.heap_objects.specs.Objects.{IsLiveAt}
 use Rattle.atomic_pause.specs.NodePlaces.{live_is_there, node_body}
 use Rattle.type_table.specs.FieldLaw.{FieldsStandApart}
 use Rattle.atomic_pause.specs.TypedNodes.{AreKnown, known_nodes}
-use Rattle.atomic_pause.specs.FieldKinds.{some_words, word_below}
+use Rattle.atomic_pause.specs.FieldKinds.{some_words, first_word_below}
 use Rattle.gc_graph.specs.NodeNumbers.{live_below}
 use Rattle.atomic_pause.specs.KeptNodes.{live_typed}
 
@@ -103,7 +103,7 @@ pub word_low : (setup : Setup) (nodes : List Node) (n f : ℕ) (field : Field) �
     → word_of_field (node_at nodes n).object f < length (node_at nodes n).object.values
 word_low setup nodes n f field valid is =
     let o : Object = (node_at nodes n).object in
-    omega (arith, word_below o.kinds o.extra f is.there, (live_typed setup nodes n valid is.live).count)
+    omega (arith, first_word_below o.kinds o.extra f is.there, (live_typed setup nodes n valid is.live).count)
 
 -- the holder has the field's word, and it is of the field's kind
 pub has_word : (setup : Setup) (nodes : List Node) (v : SeatView) (n f : ℕ) (field : Field) (is_so : Kind → Bool) → FieldsStandApart → AreOfValid setup nodes

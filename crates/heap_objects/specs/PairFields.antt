@@ -27,7 +27,7 @@ use Rattle.heap_objects.specs.Fields.{IsFieldOf, part_word, part_in, IsLiveRefer
 use Rattle.heap_objects.specs.Objects.{IsReferenceTo}
 use Rattle.atomic_pause.specs.NodePlaces.{live_is_there, node_body}
 use Rattle.atomic_pause.specs.TypedNodes.{known_nodes}
-use Rattle.atomic_pause.specs.FieldKinds.{first_word, IsOfKind, value_of_kind}
+use Rattle.atomic_pause.specs.FieldKinds.{first_word_of_kinds, IsOfKind, value_of_kind}
 use Rattle.heap_objects.specs.FieldReads.{named}
 use Rattle.atomic_pause.specs.KeptNodes.{live_typed}
 
@@ -86,21 +86,21 @@ has_pair setup nodes v n f field law valid held known is pair =
 -- ---- what a pair holds
 
 second_later : (bound : ℕ) (kind : Kind) (kinds : List Kind) (f : ℕ) (v : Value) (values : List Value) → words_of_kind kind ≡ 1
-    → IsReferenceBelow bound (get_or values (first_word kinds f + 1) Null) → IsReferenceBelow bound (get_or (v ∷ values) (first_word (kind ∷ kinds) (suc f) + 1) Null)
+    → IsReferenceBelow bound (get_or values (first_word_of_kinds kinds f + 1) Null) → IsReferenceBelow bound (get_or (v ∷ values) (first_word_of_kinds (kind ∷ kinds) (suc f) + 1) Null)
 second_later bound kind kinds f v values one is =
-    let next : suc (first_word kinds f + 1) ≡ first_word (kind ∷ kinds) (suc f) + 1 = omega (arith, sum_by-cons words_of_kind kind (take f kinds), one) in
+    let next : suc (first_word_of_kinds kinds f + 1) ≡ first_word_of_kinds (kind ∷ kinds) (suc f) + 1 = omega (arith, sum_by-cons words_of_kind kind (take f kinds), one) in
     subst (λ n. IsReferenceBelow bound (get_or (v ∷ values) n Null)) next is
 
 second_here : (bound : ℕ) (kinds : List Kind) (key v : Value) (values : List Value) → IsReferenceBelow bound v
-    → IsReferenceBelow bound (get_or (key ∷ v ∷ values) (first_word (Pair ∷ kinds) 0 + 1) Null)
+    → IsReferenceBelow bound (get_or (key ∷ v ∷ values) (first_word_of_kinds (Pair ∷ kinds) 0 + 1) Null)
 second_here bound kinds key v values is =
-    let next : 1 ≡ first_word (Pair ∷ kinds) 0 + 1 = omega arith in
+    let next : 1 ≡ first_word_of_kinds (Pair ∷ kinds) 0 + 1 = omega arith in
     subst (λ n. IsReferenceBelow bound (get_or (key ∷ v ∷ values) n Null)) next is
 
 second_past : (bound : ℕ) (kinds : List Kind) (f : ℕ) (key v : Value) (values : List Value)
-    → IsReferenceBelow bound (get_or values (first_word kinds f + 1) Null) → IsReferenceBelow bound (get_or (key ∷ v ∷ values) (first_word (Pair ∷ kinds) (suc f) + 1) Null)
+    → IsReferenceBelow bound (get_or values (first_word_of_kinds kinds f + 1) Null) → IsReferenceBelow bound (get_or (key ∷ v ∷ values) (first_word_of_kinds (Pair ∷ kinds) (suc f) + 1) Null)
 second_past bound kinds f key v values is =
-    let next : suc (suc (first_word kinds f + 1)) ≡ first_word (Pair ∷ kinds) (suc f) + 1 = omega (arith, sum_by-cons words_of_kind Pair (take f kinds)) in
+    let next : suc (suc (first_word_of_kinds kinds f + 1)) ≡ first_word_of_kinds (Pair ∷ kinds) (suc f) + 1 = omega (arith, sum_by-cons words_of_kind Pair (take f kinds)) in
     subst (λ n. IsReferenceBelow bound (get_or (key ∷ v ∷ values) n Null)) next is
 
 other_kind : (kind : Kind) → is_pair kind ≡ false → kind ≡ Pair → ⊥
@@ -108,7 +108,7 @@ other_kind kind other is = true≢false (sym (ap is_pair is) ∙ other)
 
 -- the value of a pair is null, or names a node
 second_of_pair : (bound : ℕ) (kinds : List Kind) (f : ℕ) (values : List Value) → HaveKinds bound kinds values → get_or kinds f Plain ≡ Pair
-    → IsReferenceBelow bound (get_or values (first_word kinds f + 1) Null)
+    → IsReferenceBelow bound (get_or values (first_word_of_kinds kinds f + 1) Null)
 second_of_pair bound [] f values have is = absurd (other_kind Plain refl is)
 second_of_pair bound (Strong ∷ kinds) f [] have is = absurd have
 second_of_pair bound (Weak ∷ kinds) f [] have is = absurd have
@@ -125,10 +125,10 @@ second_of_pair bound (Plain ∷ kinds) (suc f) (v ∷ values) have is = second_l
 second_of_pair bound (Pair ∷ kinds) (suc f) (key ∷ v ∷ values) have is = second_past bound kinds f key v values (second_of_pair bound kinds f values have.3 is)
 
 -- the key of a pair is null, or names a node
-first_of_pair : (bound : ℕ) (kinds : List Kind) (f : ℕ) (values : List Value) → HaveKinds bound kinds values → get_or kinds f Plain ≡ Pair → first_word kinds f < length values
-    → IsReferenceBelow bound (get_or values (first_word kinds f) Null)
+first_of_pair : (bound : ℕ) (kinds : List Kind) (f : ℕ) (values : List Value) → HaveKinds bound kinds values → get_or kinds f Plain ≡ Pair → first_word_of_kinds kinds f < length values
+    → IsReferenceBelow bound (get_or values (first_word_of_kinds kinds f) Null)
 first_of_pair bound kinds f values have is low =
-    subst (λ kind. IsOfKind bound kind (get_or values (first_word kinds f) Null)) is (value_of_kind bound kinds f values have low)
+    subst (λ kind. IsOfKind bound kind (get_or values (first_word_of_kinds kinds f) Null)) is (value_of_kind bound kinds f values have low)
 
 part_below : (setup : Setup) (nodes : List Node) (n f : ℕ) (part : Part) → AreOfValid setup nodes → IsLive nodes n → get_or (node_at nodes n).object.kinds f Plain ≡ Pair
     → IsReferenceBelow (length nodes) (part_in part nodes n f)

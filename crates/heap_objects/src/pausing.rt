@@ -15,7 +15,7 @@ ghost use Rattle.page_words.specs.Roles.{kind_lists};
 ghost use Rattle.page_words.specs.Seat.{IsQuiet, PairsAreWhole, begun};
 ghost use Rattle.page_space.specs.Space.{IsSeatOf};
 ghost use Rattle.atomic_pause.specs.Nodes.{AreOfValid};
-ghost use Rattle.atomic_pause.specs.PlacesInWords.{places_of, IsJudged};
+ghost use Rattle.atomic_pause.specs.PlacesInWords.{places_of_slots, BodiesAreJudged};
 ghost use Rattle.atomic_pause.specs.Pausing.{IsPaused, NamePlaces, hits_in};
 ghost use Rattle.atomic_pause.specs.Pausing.{IsPausable, IsPausedRegion, shared_roots};
 ghost use Rattle.heap_objects.specs.Crews.{IsIdleOrLong, KeepsTaken};
@@ -156,11 +156,11 @@ impl Objects {
         ensures sizes { (n : ℕ) → IsLive self.old.nodes n
             → size_of (node_at self.new.nodes n) ≡ size_of (node_at self.old.nodes n) }
         ensures weak { (slots : List (Option ℕ)) → NamePlaces self.old.nodes slots weak.old →
-            weak.new ≡ places_of self.new.nodes
+            weak.new ≡ places_of_slots self.new.nodes
             (map (clear_slot (is_dead_at self.new.nodes)) slots) }
         ensures region { IsPausedRegion self.new.nodes region.old pass.old region.new pass.new }
         ensures rest { IsAtRest self.new }
-        ensures judged { IsJudged self.new.seat }
+        ensures judged { BodiesAreJudged self.new.seat }
         ensures kept { result.pause.kept ≡ live_count self.new.nodes }
         ensures dead { result.pause.dead ≡ dead_count self.new.nodes }
         ensures traced { self.old.grey.traced + result.crew + result.pause.traced

@@ -15,7 +15,7 @@ ghost use Rattle.callback_table.specs.Table.{callback_kinds};
 ghost use Rattle.marker_core.specs.Bodies.{holds};
 ghost use Rattle.page_words.specs.Seat.{IsQuiet};
 ghost use Rattle.heap_objects.specs.Nodes.{AreOfValid};
-ghost use Rattle.heap_objects.specs.PlacesInWords.{places_of, IsJudged};
+ghost use Rattle.heap_objects.specs.PlacesInWords.{places_of_slots, BodiesAreJudged};
 ghost use Rattle.heap_objects.specs.Pausing.{IsPaused, hits_in};
 ghost use Rattle.heap_objects.specs.Marks.{IsAtRest, HasMarking};
 ghost use Rattle.heap_objects.specs.Objects.{setup_of_objects, refused_of};
@@ -43,7 +43,7 @@ impl Handles {
         requires valid { AreOfValid (setup_of_objects objects.old) objects.old.nodes }
         requires rest { IsAtRest objects.old }
         requires quiet { IsQuiet objects.old.seat }
-        requires slots { self.now.places ≡ places_of objects.old.nodes self.now.slots }
+        requires slots { self.now.places ≡ places_of_slots objects.old.nodes self.now.slots }
         requires live { AreLive objects.old.nodes (slot_targets self.now.slots) }
         requires stack_live { AreLive objects.old.nodes (stack_targets self.now.stack.words) }
         ensures marks { HasMarking (Reach (graph_of objects.old.nodes)
@@ -80,8 +80,8 @@ impl Handles {
         requires marks { (may : List Bool) × HasMarking may objects.old }
         requires few { length objects.old.nodes ≤ 1000000 }
         requires kinds { callback_kinds callbacks.now ≡ objects.old.callbacks }
-        requires slots { self.old.places ≡ places_of objects.old.nodes self.old.slots }
-        requires weak { self.old.weak_places ≡ places_of objects.old.nodes self.old.weak }
+        requires slots { self.old.places ≡ places_of_slots objects.old.nodes self.old.slots }
+        requires weak { self.old.weak_places ≡ places_of_slots objects.old.nodes self.old.weak }
         requires live { AreLive objects.old.nodes (slot_targets self.old.slots) }
         requires kept { (p : ℕ) → Contains self.old.places (Some p)
             → holds objects.old.seat.may p ≡ true }
@@ -100,12 +100,12 @@ impl Handles {
         ensures sizes { (n : ℕ) → IsLive objects.old.nodes n
             → size_of (node_at objects.new.nodes n) ≡ size_of (node_at objects.old.nodes n) }
         ensures handles { self.new ≡ record self.old {
-          weak_places = places_of objects.new.nodes self.new.weak;
+          weak_places = places_of_slots objects.new.nodes self.new.weak;
           weak = map (clear_slot (is_dead_at objects.new.nodes)) self.old.weak;
         } }
         ensures region { HasPauseEntry objects.new.nodes region.old region.new }
         ensures rest { IsAtRest objects.new }
-        ensures judged { IsJudged objects.new.seat }
+        ensures judged { BodiesAreJudged objects.new.seat }
         ensures kept { result.pause.kept ≡ live_count objects.new.nodes }
         ensures dead { result.pause.dead ≡ dead_count objects.new.nodes }
         ensures traced { objects.old.grey.traced + result.crew + result.pause.traced

@@ -17,7 +17,7 @@ use Rattle.persistent_slots.specs.Clearing.{taken}
 use Rattle.marker_core.specs.Bodies.{IsPlace}
 use Rattle.page_words.specs.Seat.{SeatView}
 use Rattle.nodes_in_words.specs.Nodes.{place_of, body_of, bodies_of, AreOfValid}
-use Rattle.nodes_in_words.specs.Places.{kept_of, places_of}
+use Rattle.nodes_in_words.specs.Places.{kept_of, places_of_slots}
 use Rattle.nodes_in_words.specs.NodePlaces.{live_is_there, live_is_live, is_live_life, node_body}
 use Rattle.nodes_in_words.specs.TypedNodes.{NamesBelow, below_from}
 
@@ -66,49 +66,49 @@ root_of_slot (Some m ∷ slots) n c =
     ]
 
 -- a slot's place is that of its node
-pub slot_place : (nodes : List Node) (slots : List (Option ℕ)) (n : ℕ) → Contains slots (Some n) → Contains (places_of nodes slots) (Some (place_of nodes n))
-slot_place nodes [] n c = absurd (omega (arith, c.1))
-slot_place nodes (slot ∷ slots) n c =
+pub slot_node_place : (nodes : List Node) (slots : List (Option ℕ)) (n : ℕ) → Contains slots (Some n) → Contains (places_of_slots nodes slots) (Some (place_of nodes n))
+slot_node_place nodes [] n c = absurd (omega (arith, c.1))
+slot_node_place nodes (slot ∷ slots) n c =
     elim (Contains-cons_cases slot slots (Some n) c) [
-      | inl here ↦ subst (λ s. Contains (places_of nodes (s ∷ slots)) (Some (place_of nodes n))) (sym here) (Contains-head (Some (place_of nodes n)) (places_of nodes slots))
-      | inr later ↦ Contains-cons _ (places_of nodes slots) (Some (place_of nodes n)) (slot_place nodes slots n later)
+      | inl here ↦ subst (λ s. Contains (places_of_slots nodes (s ∷ slots)) (Some (place_of nodes n))) (sym here) (Contains-head (Some (place_of nodes n)) (places_of_slots nodes slots))
+      | inr later ↦ Contains-cons _ (places_of_slots nodes slots) (Some (place_of nodes n)) (slot_node_place nodes slots n later)
     ]
 
-pub place_slot : (nodes : List Node) (slots : List (Option ℕ)) (p : ℕ) → Contains (places_of nodes slots) (Some p) → (n : ℕ) × Contains slots (Some n) × (place_of nodes n ≡ p)
+pub place_slot : (nodes : List Node) (slots : List (Option ℕ)) (p : ℕ) → Contains (places_of_slots nodes slots) (Some p) → (n : ℕ) × Contains slots (Some n) × (place_of nodes n ≡ p)
 place_slot nodes [] p c = absurd (omega (arith, c.1))
 place_slot nodes (None ∷ slots) p c =
-    elim (Contains-cons_cases None (places_of nodes slots) (Some p) c) [
+    elim (Contains-cons_cases None (places_of_slots nodes slots) (Some p) c) [
       | inl e ↦ cc
       | inr later ↦ (let w = place_slot nodes slots p later in (w.0, Contains-cons None slots (Some w.0) w.1, w.2))
     ]
 place_slot nodes (Some m ∷ slots) p c =
-    elim (Contains-cons_cases (Some (place_of nodes m)) (places_of nodes slots) (Some p) c) [
+    elim (Contains-cons_cases (Some (place_of nodes m)) (places_of_slots nodes slots) (Some p) c) [
       | inl e ↦ (m, Contains-head (Some m) slots, (let q : place_of nodes m ≡ p = cc in q))
       | inr later ↦ (let w = place_slot nodes slots p later in (w.0, Contains-cons (Some m) slots (Some w.0) w.1, w.2))
     ]
 
 -- what a slot names is there, and so its place is a body's
 pub named_places : (nodes : List Node) (v : SeatView) (slots : List (Option ℕ)) → v.bodies ≡ bodies_of nodes → All (λ slot. ForSome slot (IsLive nodes)) slots
-    → All (λ slot. ForSome slot (IsPlace v.bodies)) (places_of nodes slots)
+    → All (λ slot. ForSome slot (IsPlace v.bodies)) (places_of_slots nodes slots)
 named_places nodes v [] held live = λ k d low. absurd (omega arith)
 named_places nodes v (None ∷ slots) held live =
-    All-cons (λ slot. ForSome slot (IsPlace v.bodies)) None (places_of nodes slots) (λ p e. cc)
+    All-cons (λ slot. ForSome slot (IsPlace v.bodies)) None (places_of_slots nodes slots) (λ p e. cc)
     (named_places nodes v slots held (All-tail (λ slot. ForSome slot (IsLive nodes)) None slots live))
 named_places nodes v (Some n ∷ slots) held live =
     let is : IsLive nodes n = All-head (λ slot. ForSome slot (IsLive nodes)) (Some n) slots live n refl in
-    All-cons (λ slot. ForSome slot (IsPlace v.bodies)) (Some (place_of nodes n)) (places_of nodes slots)
+    All-cons (λ slot. ForSome slot (IsPlace v.bodies)) (Some (place_of nodes n)) (places_of_slots nodes slots)
     (λ p e. subst (IsPlace v.bodies) (let q : place_of nodes n ≡ p = cc in q)
     (body_of (place_of nodes) n (node_at nodes n), node_body nodes v n held (live_is_there nodes n is), refl))
     (named_places nodes v slots held (All-tail (λ slot. ForSome slot (IsLive nodes)) (Some n) slots live))
 
 -- the places that slots hold are those of bodies
 pub weak_are_places : (nodes : List Node) (v : SeatView) (slots : List (Option ℕ)) → v.bodies ≡ bodies_of nodes → All (λ slot. ForSome slot (IsLive nodes)) slots
-    → All (IsPlace v.bodies) (taken (places_of nodes slots))
+    → All (IsPlace v.bodies) (taken (places_of_slots nodes slots))
 weak_are_places nodes v [] held live = λ k d low. absurd (omega arith)
 weak_are_places nodes v (None ∷ slots) held live = weak_are_places nodes v slots held (All-tail (λ slot. ForSome slot (IsLive nodes)) None slots live)
 weak_are_places nodes v (Some n ∷ slots) held live =
     let is : IsLive nodes n = All-head (λ slot. ForSome slot (IsLive nodes)) (Some n) slots live n refl in
-    All-cons (IsPlace v.bodies) (place_of nodes n) (taken (places_of nodes slots))
+    All-cons (IsPlace v.bodies) (place_of nodes n) (taken (places_of_slots nodes slots))
     (body_of (place_of nodes) n (node_at nodes n), node_body nodes v n held (live_is_there nodes n is), refl)
     (weak_are_places nodes v slots held (All-tail (λ slot. ForSome slot (IsLive nodes)) (Some n) slots live))
 
@@ -142,5 +142,5 @@ refers_within setup nodes valid flags m n leads =
           (sym (ap (λ o. leads_to flags o n) (object_of_node nodes m ∙ ap (λ (x : Node). x.object) (get_or_past nodes m no_node past))) ∙ leads)))
     ]
 
-pub slot_live : (nodes : List Node) (slots : List (Option ℕ)) (n : ℕ) → AreLive nodes (slot_targets slots) → Contains slots (Some n) → IsLive nodes n
-slot_live nodes slots n live c = All-contains (λ slot. ForSome slot (IsLive nodes)) slots (Some n) (slots_live nodes slots live) c n refl
+pub slot_node_live : (nodes : List Node) (slots : List (Option ℕ)) (n : ℕ) → AreLive nodes (slot_targets slots) → Contains slots (Some n) → IsLive nodes n
+slot_node_live nodes slots n live c = All-contains (λ slot. ForSome slot (IsLive nodes)) slots (Some n) (slots_live nodes slots live) c n refl

@@ -21,7 +21,7 @@ use Rattle.nodes_in_words.specs.Space.{extents_of_bodies}
 use Rattle.prefinalizer_effects.specs.Acting as words
 use Rattle.nodes_in_words.specs.Nodes.{IsThere}
 use Rattle.prefinalizer_effects.specs.Prepared.{NamesThere, AllNameThere}
-use Rattle.nodes_in_words.specs.Places.{IsJudged}
+use Rattle.nodes_in_words.specs.Places.{BodiesAreJudged}
 use Rattle.nodes_in_words.specs.ChangedBodies.{KeepsExtents, same_extents, judged_changed}
 
 -- ---- what holds of null, of all numbers, and of a node's values holds of them after an action
@@ -149,7 +149,7 @@ pub record StayPut (old new : SeatView) : Type 0 where
   pub types : new.types ≡ old.types
   pub on : new.on ≡ old.on
   pub extents : extents_of_bodies new.bodies ≡ extents_of_bodies old.bodies
-  pub judged : IsJudged old → IsJudged new
+  pub judged : BodiesAreJudged old → BodiesAreJudged new
   pub early : new.early ≡ old.early
   pub marked : new.marked ≡ old.marked
 
@@ -160,7 +160,7 @@ put_looked v w x same put = record {
   types = ap (λ (z : SeatView). z.types) same ∙ put.types;
   on = ap (λ (z : SeatView). z.on) same ∙ put.on;
   extents = ap (λ (z : SeatView). extents_of_bodies z.bodies) same ∙ put.extents;
-  judged = λ is. subst IsJudged (sym same) (put.judged is);
+  judged = λ is. subst BodiesAreJudged (sym same) (put.judged is);
   early = ap (λ (z : SeatView). z.early) same ∙ put.early;
   marked = ap (λ (z : SeatView). z.marked) same ∙ put.marked;
 }

@@ -15,7 +15,7 @@ use Rattle.type_table.specs.Types.{declared_kinds}
 use Rattle.marker_core.specs.declared.states.Body.{Body}
 use Rattle.prefinalizer_effects.specs.Acting as bodies
 use Rattle.nodes_in_words.specs.Nodes.{word_of, body_of}
-use Rattle.nodes_in_words.specs.FieldKinds.{IsOfKind, value_of_kind, word_below}
+use Rattle.nodes_in_words.specs.FieldKinds.{IsOfKind, value_of_kind, first_word_below}
 
 -- ---- what one change leaves of a body
 
@@ -92,7 +92,7 @@ module _ (setup : Setup) (bound : ℕ) (place : ℕ → ℕ) (k : ℕ) (node : N
   plain_held : (f : ℕ) → f < fields.field_count node → fields.kind_of_field node.object f ≡ Plain → IsPlainWord (value_at node (fields.word_of_field node.object f))
   plain_held f there plain =
       subst (λ kind. IsOfKind bound kind (value_at node (fields.word_of_field node.object f))) plain
-      (held_kind f (omega (arith, typed.count, word_below node.object.kinds node.object.extra f there)))
+      (held_kind f (omega (arith, typed.count, first_word_below node.object.kinds node.object.extra f there)))
 
   pub added_body : (f amount : ℕ) → bodies.body_added_at setup.types f amount own ≡ body_of place k (graph.added_at node f amount)
   added_body f amount =

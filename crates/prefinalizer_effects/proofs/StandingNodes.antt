@@ -8,7 +8,7 @@ use Rattle.marker_core.specs.declared.states.Body.{Body}
 use Rattle.page_words.specs.Seat.{SeatView}
 use Rattle.callback_table.specs.Bodies.{StandsAt, IsNodePlace}
 use Rattle.nodes_in_words.specs.Nodes.{IsThere, place_of, body_of, bodies_of, IsHeld}
-use Rattle.nodes_in_words.specs.Places.{IsJudged}
+use Rattle.nodes_in_words.specs.Places.{BodiesAreJudged}
 use Rattle.nodes_in_words.specs.NodePlaces.{node_body}
 
 there_unless_gone : (l : Life) → (l ≡ Gone → ⊥) → is_there l ≡ true
@@ -28,7 +28,7 @@ not_twice true dead gone unmarked is = ap not (sym unmarked ∙ is)
 not_twice false dead gone unmarked is = ap not (sym unmarked ∙ is)
 
 -- once marking is over, the mark tells whether the node that stands at the place is dead
-pub mark_tells : (nodes : List Node) (v : SeatView) (place n : ℕ) → IsHeld nodes v → IsJudged v → StandsAt nodes place n
+pub mark_tells : (nodes : List Node) (v : SeatView) (place n : ℕ) → IsHeld nodes v → BodiesAreJudged v → StandsAt nodes place n
     → holds v.marked place ≡ not (is_dead_at nodes n)
 mark_tells nodes v place n held judged stands =
     let there : IsThere nodes n = stands_there nodes place n stands in

@@ -5,7 +5,7 @@ use Rattle.gc_graph.specs.State.{ObjectType, Node}
 use Rattle.page_words.specs.Seat.{SeatView, OnlyLooked}
 use Rattle.nodes_in_words.specs.Space.{SpaceView, IsSpaceOf}
 use Rattle.nodes_in_words.specs.LookedNodes.{held_looked}
-use Rattle.nodes_in_words.specs.Places.{IsJudged}
+use Rattle.nodes_in_words.specs.Places.{BodiesAreJudged}
 use Rattle.prefinalizer_effects.specs.Prepared.{IsPrepared}
 
 -- objects that are prepared for prefinalizers still are where headers were looked at
@@ -19,5 +19,5 @@ prepared_looked space types v w nodes same ready = record {
   few = ready.few;
   typed = ready.typed;
   named = ready.named;
-  judged = subst IsJudged (sym same) ready.judged;
+  judged = subst BodiesAreJudged (sym same) ready.judged;
 }

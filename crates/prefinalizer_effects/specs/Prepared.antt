@@ -8,7 +8,7 @@ use Rattle.gc_graph.specs.ActionLaw.{AreTyped}
 use Rattle.page_words.specs.Seat.{SeatView}
 use Rattle.nodes_in_words.specs.Space.{SpaceView, IsSpaceOf}
 use Rattle.nodes_in_words.specs.Nodes.{IsThere, IsHeld}
-use Rattle.nodes_in_words.specs.Places.{IsJudged}
+use Rattle.nodes_in_words.specs.Places.{BodiesAreJudged}
 
 -- what was set up
 abbrev pub setup_in_space : SpaceView → List ObjectType → List ActionKind → Setup
@@ -33,4 +33,4 @@ pub record IsPrepared (space : SpaceView) (types : List ObjectType) (v : SeatVie
   pub few : length nodes ≤ 1000000
   pub typed : AreTyped (setup_in_space space types []) nodes
   pub named : AllNameThere nodes
-  pub judged : IsJudged v
+  pub judged : BodiesAreJudged v
