@@ -32,7 +32,7 @@ use Rattle.heap_roots.specs.Region.{HasPauseEntry}
 use Rattle.heap_roots.specs.Stack.{HoldsWords, is_precise}
 use Rattle.heap_roots.specs.StackWords.{words_held}
 use Rattle.heap_roots.specs.Finished.{Finished}
-use Rattle.heap_roots.specs.Marks.{IsAtRest, HasMarks}
+use Rattle.heap_roots.specs.Marks.{ObjectsAreAtRest, HasMarks}
 use Rattle.heap_roots.specs.Objects.{ObjectsView, setup_of_objects, refused_of, StaysAt}
 use Rattle.heap_roots.specs.Refused.{IsToldTruly}
 use Rattle.heap_cycle.specs.declared.parts.Parts.{Parts}
@@ -116,7 +116,7 @@ began_sweep mid new between after is setup phase sweep cursor = record {
   cursor_is = ap (λ (w : SweepView). w.cursor) sweep ∙ sym cursor ∙ sym (ap (λ ph. pages_swept_in ph new.shape.pages after.rest.cursor) phase);
 }
 
-began_marks : (new : ObjectsView) (after : CycleView) (s : SweepView) → after.phase ≡ Sweeping → after.sweep ≡ record s { cursor = 0 } → IsAtRest new
+began_marks : (new : ObjectsView) (after : CycleView) (s : SweepView) → after.phase ≡ Sweeping → after.sweep ≡ record s { cursor = 0 } → ObjectsAreAtRest new
     → BodiesAreJudged new.seat → HasMarks after.phase (cursor_at new.shape after.sweep) after.rest.may new
 began_marks new after s phase sweep rest judged =
     let none : cursor_at new.shape after.sweep ≡ 0 = ap (cursor_at new.shape) sweep ∙ (let e : 0 * new.shape.page_words ≡ 0 = omega arith in e) in
@@ -149,7 +149,7 @@ pub record Pauses
       (registry_of s.cycle) (registry_of after)
   pub sizes : (n : ℕ) → IsLive s.objects.nodes n → size_of (node_at new.nodes n) ≡ size_of (node_at s.objects.nodes n)
   pub handles_left : left ≡ record s.handles { weak_places = places_of_slots new.nodes left.weak; weak = map (clear_slot (is_dead_at new.nodes)) s.handles.weak }
-  pub rests : IsAtRest new
+  pub rests : ObjectsAreAtRest new
   pub judged_marks : BodiesAreJudged new.seat
   pub phase : after.phase ≡ Sweeping
   pub sweep : after.sweep ≡ record s.cycle.sweep { cursor = 0 }

@@ -24,7 +24,7 @@ use Rattle.sweeper.specs.Sweeping.{SweepView, cursor_at}
 use Rattle.heap_cycle.specs.Changes.{SweepsParts}
 use Rattle.heap_roots.specs.Finalising.{IsSweptTo}
 use Rattle.heap_roots.specs.Marking.{GreyView}
-use Rattle.heap_roots.specs.Marks.{IsAtRest, HasMarks}
+use Rattle.heap_roots.specs.Marks.{ObjectsAreAtRest, HasMarks}
 use Rattle.heap_cycle.specs.Finalising.{SweepsOn}
 use Rattle.heap_roots.specs.Objects.{HaveCallbacks, ObjectsView, StaysAt}
 use Rattle.heap_cycle.specs.declared.parts.Parts.{Parts}
@@ -128,7 +128,7 @@ pub still_open : (s : Parts) → IsReady s → s.cycle.sweep.cursor < s.objects.
 still_open s ready low = open_phase s.cycle.phase s.objects.shape.pages s.cycle.rest.cursor s.cycle.sweep.cursor ready.tied.sweep.cursor_is low
 
 -- in an open sweep no marking goes on, and all is swept up to the cursor
-pub marks_open : (s : Parts) → IsReady s → s.cycle.phase ≡ Sweeping → IsAtRest s.objects × IsSweptTo (cursor_at s.objects.shape s.cycle.sweep) s.objects.seat
+pub marks_open : (s : Parts) → IsReady s → s.cycle.phase ≡ Sweeping → ObjectsAreAtRest s.objects × IsSweptTo (cursor_at s.objects.shape s.cycle.sweep) s.objects.seat
 marks_open s ready sweeping = subst (λ ph. HasMarks ph (cursor_at s.objects.shape s.cycle.sweep) s.cycle.rest.may s.objects) sweeping ready.tied.marks
 
 -- a sweep that hasn't gone on yet

@@ -8,7 +8,7 @@ use Rattle.gc_graph.specs.Sweep.{finalise, phase_at, AreDeadInOrder}
 use Rattle.page_words.specs.Seat.{IsQuiet}
 use Rattle.heap_cycle.specs.Changes.{swept_to, SweepsParts}
 use Rattle.heap_roots.specs.Finalising.{IsSweptTo, FinalisesBelow}
-use Rattle.heap_roots.specs.Marks.{IsAtRest, HasMarks}
+use Rattle.heap_roots.specs.Marks.{ObjectsAreAtRest, HasMarks}
 use Rattle.heap_roots.specs.Objects.{ObjectsView, setup_of_objects}
 use Rattle.heap_cycle.specs.Views.{CycleView}
 
@@ -18,7 +18,7 @@ pub over_at : (shape : Shape) (pages : ℕ) → pages ≡ shape.pages → Idle �
 over_at shape pages all = sym (ap (λ b. cond b Idle Sweeping) (eq-eqb pages shape.pages all))
 
 -- nothing is marked once all pages are swept, and else all is swept up to the address
-pub marks_at : (shape : Shape) (pages limit : ℕ) (may : List Bool) (o : ObjectsView) → IsAtRest o → IsSweptTo limit o.seat → (pages ≡ shape.pages → IsQuiet o.seat)
+pub marks_at : (shape : Shape) (pages limit : ℕ) (may : List Bool) (o : ObjectsView) → ObjectsAreAtRest o → IsSweptTo limit o.seat → (pages ≡ shape.pages → IsQuiet o.seat)
     → HasMarks (phase_at shape pages) limit may o
 marks_at shape pages limit may o rest swept quiet =
     elim (cases_Bool (eqb pages shape.pages)) [

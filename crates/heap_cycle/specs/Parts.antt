@@ -14,7 +14,7 @@ use Rattle.heap_roots.specs.Stack.{HoldsWords}
 use Rattle.heap_cycle.specs.Views.{IsSweepOf, IsPlaced}
 use Rattle.heap_cycle.specs.Walks.{IsWalkTold}
 use Rattle.heap_roots.specs.Marks.{HasMarks}
-use Rattle.heap_roots.specs.Objects.{told_of}
+use Rattle.heap_roots.specs.Objects.{refusals_told_of}
 
 -- what was set up
 abbrev pub setup_of : Parts → Setup
@@ -81,4 +81,4 @@ pub record IsFrame (old new : Parts) (line : Line) : Type 0 where
   pub ordinal : new.cycle.rest.ordinal ≡ old.cycle.rest.ordinal + 1
   pub tied : AreTied new
   pub manned : IsManned old → IsManned new
-  pub refused : IsWalkTold old.cycle.phase (told_of old.objects) (told_of new.objects) line
+  pub refused : IsWalkTold old.cycle.phase (refusals_told_of old.objects) (refusals_told_of new.objects) line

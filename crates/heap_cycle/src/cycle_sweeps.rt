@@ -8,7 +8,7 @@ ghost use Rattle.page_space.specs.Pages.{word_count};
 ghost use Rattle.sweeper.specs.Sweeping.{cursor_at};
 ghost use Rattle.heap_roots.specs.Nodes.{AreOfValid};
 ghost use Rattle.heap_roots.specs.Finalising.{IsSweptTo, AreFewTold};
-ghost use Rattle.heap_roots.specs.Marks.{IsAtRest};
+ghost use Rattle.heap_roots.specs.Marks.{ObjectsAreAtRest};
 ghost use Rattle.heap_roots.specs.Objects.{setup_of_objects};
 ghost use Rattle.heap_cycle.specs.Changes.{SweepsParts};
 
@@ -30,7 +30,7 @@ impl Cycle {
         requires phase { self.old.phase ≡ Sweeping }
         requires pages { self.old.sweep.pages ≡ objects.old.shape.pages }
         requires open { self.old.sweep.cursor < self.old.sweep.pages }
-        requires rest { IsAtRest objects.old }
+        requires rest { ObjectsAreAtRest objects.old }
         requires marks { IsSweptTo (cursor_at objects.old.shape self.old.sweep) objects.old.seat }
         requires valid { AreOfValid (setup_of_objects objects.old) objects.old.nodes }
         requires few { length objects.old.nodes ≤ 1000000 }
@@ -53,7 +53,7 @@ impl Cycle {
     pub fn finish(&mut self, objects: &mut Objects, finalised: &mut Vec<u32>)
         requires phase { self.old.phase ≡ Sweeping }
         requires pages { self.old.sweep.pages ≡ objects.old.shape.pages }
-        requires rest { IsAtRest objects.old }
+        requires rest { ObjectsAreAtRest objects.old }
         requires marks { IsSweptTo (cursor_at objects.old.shape self.old.sweep) objects.old.seat }
         requires valid { AreOfValid (setup_of_objects objects.old) objects.old.nodes }
         requires few { length objects.old.nodes ≤ 1000000 }

@@ -5,7 +5,7 @@ use Rattle.gc_graph.specs.State.{Setup, State}
 use Rattle.gc_graph.specs.Valid.{IsValid}
 use Rattle.heap_cycle.specs.Sweeping.{cursor_at}
 use Rattle.heap_cycle.specs.Marks.{HasMarks}
-use Rattle.heap_cycle.specs.Objects.{HaveCallbacks, told_of}
+use Rattle.heap_cycle.specs.Objects.{HaveCallbacks, refusals_told_of}
 use Rattle.heap_cycle.specs.declared.parts.Parts.{Parts}
 use Rattle.heap_cycle.specs.Parts.{counted, setup_of, state_of, AreTied, IsFrame, IsManned, IsReady}
 use Rattle.heap_cycle.specs.Ties.{tied_counted}
@@ -46,13 +46,13 @@ tied_rest s rest tied same = record {
 
 -- and a command that changes no more leaves the frame
 pub frame_rest : (s new : Parts) (line : Line) → AreTied s → new ≡ record s { cycle = record s.cycle { rest = new.cycle.rest } } → HasSameTies s.cycle.rest new.cycle.rest
-    → (GoesOnTelling s.cycle.phase (told_of s.objects) (told_of new.objects) → IsWalkTold s.cycle.phase (told_of s.objects) (told_of new.objects) line) → IsFrame s (counted new) line
+    → (GoesOnTelling s.cycle.phase (refusals_told_of s.objects) (refusals_told_of new.objects) → IsWalkTold s.cycle.phase (refusals_told_of s.objects) (refusals_told_of new.objects) line) → IsFrame s (counted new) line
 frame_rest s new line tied others same plain = record {
   setup = ap setup_of others;
   ordinal = ap (λ n. n + 1) same.ordinal;
   tied = tied_counted new (subst AreTied (sym others) (tied_rest s new.cycle.rest tied same));
   manned = subst IsManned (sym others);
-  refused = plain (tells_same s.cycle.phase (told_of s.objects) (told_of new.objects) (ap (λ (p : Parts). told_of p.objects) others));
+  refused = plain (tells_same s.cycle.phase (refusals_told_of s.objects) (refusals_told_of new.objects) (ap (λ (p : Parts). refusals_told_of p.objects) others));
 }
 
 -- what holds of the state that the parts are

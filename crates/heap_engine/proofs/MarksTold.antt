@@ -25,7 +25,7 @@ use Rattle.heap_cycle.specs.Nodes.{place_of}
 use Rattle.heap_cycle.specs.PlacesInWords.{kept_of}
 use Rattle.heap_cycle.specs.Marks.{HasMarks, HasMarking, IsOut}
 use Rattle.heap_cycle.specs.Notes.{note_of}
-use Rattle.heap_cycle.specs.Objects.{ObjectsView, told_of}
+use Rattle.heap_cycle.specs.Objects.{ObjectsView, refusals_told_of}
 use Rattle.heap_cycle.specs.declared.parts.Parts.{Parts}
 use Rattle.heap_cycle.specs.Cycles.{AreSlotsMarked, IsNoneGrey, HasNoRefusedNote, HasNoRefusedPush}
 use Rattle.heap_cycle.specs.KeptRoots.{marking_of}
@@ -114,7 +114,7 @@ still_marking old n t done new is =
     let goes = open_at old.phase _ _ is (λ why. (let never : L.Step t done ∷ [] ≡ L.Refused _ ∷ [] = why.0 in cc)) in
     ap (λ (s : State). s.phase) goes.1.after ∙ goes.0
 
-unrefused : (s : Parts) → AreTied s → s.cycle.phase ≡ Marking → HasNoRefusedPush (told_of s.objects) → s.objects.grey.marking.overflow ≡ false
+unrefused : (s : Parts) → AreTied s → s.cycle.phase ≡ Marking → HasNoRefusedPush (refusals_told_of s.objects) → s.objects.grey.marking.overflow ≡ false
 unrefused s tied on none =
     let has : HasMarking s.cycle.rest.may s.objects =
     subst (λ (phase : Phase). HasMarks phase (cursor_at s.objects.shape s.cycle.sweep) s.cycle.rest.may s.objects) on tied.marks in
@@ -127,7 +127,7 @@ unrefused s tied on none =
     ]
 
 -- where no push was refused, each marked node is traced once a step tells that it is done
-pub all_traced : (s : Parts) → AreTied s → s.cycle.phase ≡ Marking → IsNoneGrey s → HasNoRefusedPush (told_of s.objects)
+pub all_traced : (s : Parts) → AreTied s → s.cycle.phase ≡ Marking → IsNoneGrey s → HasNoRefusedPush (refusals_told_of s.objects)
     → IsWithin (kept_of (holds s.objects.seat.marked) s.objects.nodes) (kept_of (holds s.objects.seat.traced) s.objects.nodes)
 all_traced s tied on grey none n marked =
     let is = kept_parts (holds s.objects.seat.marked) s.objects.nodes n marked in
@@ -144,7 +144,7 @@ pub some_run : (s : Parts) → IsManned s → s.cycle.phase ≡ Marking → 0 < 
 some_run s manned marking some = omega (arith, some, manned marking)
 
 -- no note was refused where none is counted
-unrefused_notes : (may : List Bool) (o : ObjectsView) → HasMarking may o → HasNoRefusedNote (told_of o) → o.grey.notes.overflow ≡ false
+unrefused_notes : (may : List Bool) (o : ObjectsView) → HasMarking may o → HasNoRefusedNote (refusals_told_of o) → o.grey.notes.overflow ≡ false
 unrefused_notes may o has none = elim (cases_Bool o.grey.notes.overflow) [
   | inl told ↦ elim (has.notes_told.only told) [
     | inl before ↦ absurd (true≢false (sym before))
@@ -155,7 +155,7 @@ unrefused_notes may o has none = elim (cases_Bool o.grey.notes.overflow) [
 
 -- then each item that the owner took beside markers is dealt with
 pub items_dealt : (s : Parts) → IsReady s → IsManned s → s.objects.seat.count ≡ word_count s.objects.shape → s.cycle.phase ≡ Marking → 0 < s.objects.grey.markers
-    → HasNoRefusedNote (told_of s.objects) → (p : ℕ) → Contains (items_of s.objects.seat s.objects.grey).taken p
+    → HasNoRefusedNote (refusals_told_of s.objects) → (p : ℕ) → Contains (items_of s.objects.seat s.objects.grey).taken p
     → IsDealtWith (items_of s.objects.seat s.objects.grey) (word_count s.objects.shape) p
 items_dealt s ready manned words marking some none p took =
     let has : HasMarking s.cycle.rest.may s.objects = marking_of s ready marking in

@@ -13,7 +13,7 @@ use Rattle.gc_graph.specs.Outcomes.{answered, with_slot}
 use Rattle.gc_graph.specs.ObjectSteps.{IsRead}
 use Rattle.heap_cycle.specs.Nodes.{place_of}
 use Rattle.heap_cycle.specs.Fields.{IsLiveReference}
-use Rattle.heap_cycle.specs.Objects.{target_in, told_of, IsLiveAt}
+use Rattle.heap_cycle.specs.Objects.{target_in, refusals_told_of, IsLiveAt}
 use Rattle.heap_cycle.specs.Refused.{RefusalsTold}
 use Rattle.heap_cycle.specs.Handles.{put_in, HandlesView}
 use Rattle.heap_cycle.specs.declared.parts.Parts.{Parts}
@@ -126,7 +126,7 @@ put_frame s mid after q target content told nodes setup grey ordinal before tied
           (subst (λ (t : Option (ℕ × ℕ)). option_map (λ (x : ℕ × ℕ). x.0) t ≡ option_map (place_of mid.objects.nodes) (option_map (λ (x : ℕ × ℕ). x.1) t)) (sym at)
           (target_places mid.objects.nodes content)) tied);
       manned = manned_grey s mid before tied grey;
-      refused = told_same s.cycle.phase (told_of s.objects) (told_of mid.objects) target told (told_by s.objects mid.objects grey) line;
+      refused = told_same s.cycle.phase (refusals_told_of s.objects) (refusals_told_of mid.objects) target told (told_by s.objects mid.objects grey) line;
     }
 
 -- a slot got what was read, and no more

@@ -16,7 +16,7 @@ use Rattle.heap_cycle.specs.Stack.{StackView, pointed_place}
 use Rattle.heap_cycle.specs.declared.parts.Parts.{Parts}
 use Rattle.heap_cycle.specs.Handles.{HandlesView}
 use Rattle.heap_cycle.specs.Parts.{state_of, AreTied, IsReady}
-use Rattle.heap_cycle.specs.StackWords.{pointer_at, number_in, no_word}
+use Rattle.heap_cycle.specs.StackWords.{pointer_at, number_without_place, no_word}
 
 -- ---- a pointer is pushed, or refused for its offset
 
@@ -61,7 +61,7 @@ peek_pointer s i q n offset lines new is told after = on_word s i q lines new (P
 pub peek_number : (s : Parts) (lent : StackView) (i q : ℕ) (told : Option (Option ℕ)) (lines : List Line) (new : State) → AreTied s
     → TellsWord s.handles lent i told → told ≡ Some None → IsRefused R.Kind (state_of s) lines new → StepPeek (state_of s) i q lines new
 peek_number s lent i q told lines new tied is none step =
-    let number = number_in s.objects.nodes s.handles.stack.words i (sym (word_told s lent i told tied is) ∙ none) in
+    let number = number_without_place s.objects.nodes s.handles.stack.words i (sym (word_told s lent i told tied is) ∙ none) in
     on_word (state_of s) i q lines new (Number number.0) number.1 step
 
 pub peek_none : (s : Parts) (lent : StackView) (i q : ℕ) (told : Option (Option ℕ)) (lines : List Line) (new : State) → AreTied s

@@ -10,7 +10,7 @@ use Rattle.heap_cycle.specs.PlacesInWords.{kept_of}
 use Rattle.mark_worklist.specs.Families.{at}
 use Rattle.mark_worklist.specs.Shares.{taken_by_share}
 use Rattle.heap_cycle.specs.Marking.{GreyView}
-use Rattle.heap_cycle.specs.Objects.{told_of}
+use Rattle.heap_cycle.specs.Objects.{refusals_told_of}
 use Rattle.heap_engine.specs.declared.heap_core.Core.TheInside.{Inside}
 use Rattle.heap_engine.specs.View.{Items, View}
 use Rattle.heap_cycle.specs.Printed.{Printed, outcome_lines, IsOutcome}
@@ -41,7 +41,7 @@ view_of h = record {
   going = h.going.value;
   lines = told_lines h.shared ++ outcome_lines h.outcome h.parts.cycle.ran;
   piece = made h.before.value (taken_of h.shared);
-  refusals = told_of h.parts.objects;
+  refusals = refusals_told_of h.parts.objects;
   lent = h.parts.objects.seat.lent;
   idle = h.parts.objects.grey.marking.list.idle;
   items = items_of h.parts.objects.seat h.parts.objects.grey;

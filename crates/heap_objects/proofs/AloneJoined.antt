@@ -13,7 +13,7 @@ use Rattle.atomic_pause.specs.UnderWay.{IsReadyToEnd, IsUnderWay}
 use Rattle.marker_crew.specs.Crews.{Marker}
 use Rattle.heap_objects.specs.Crews.{refusals_of_all}
 use Rattle.heap_objects.specs.Marking.{GreyView, IsCleared, notes_in}
-use Rattle.heap_objects.specs.Marks.{HasCrew, IsHome}
+use Rattle.heap_objects.specs.Marks.{CrewIsLent, IsHome}
 use Rattle.heap_objects.proofs.JoinedSeats.{or_false}
 
 -- ---- groups in which there is nothing
@@ -64,7 +64,7 @@ none_told (y ∷ others) cleared = ap₂ (λ a b. a || b) (All-head IsCleared y 
 
 -- ---- the crew is at home
 
-module _ (v : SeatView) (g : GreyView) (groups : List NotesState) (calm : g.running ≡ []) (way : IsUnderWay v g.marking g.notes) (crew : HasCrew v g) (view : IsView v)
+module _ (v : SeatView) (g : GreyView) (groups : List NotesState) (calm : g.running ≡ []) (way : IsUnderWay v g.marking g.notes) (crew : CrewIsLent v g) (view : IsView v)
     (own : group_at groups 0 ≡ g.notes) (rest : drop 1 groups ≡ g.others) (some : 0 < length groups) where
   home : IsHome g
   home = crew.home calm

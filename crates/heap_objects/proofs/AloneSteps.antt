@@ -22,7 +22,7 @@ use Rattle.marker_crew.specs.Crews.{Marker}
 use Rattle.heap_objects.specs.declared.marking.Grey.{Grey}
 use Rattle.heap_objects.specs.Crews.{IsStepped}
 use Rattle.heap_objects.specs.Marking.{GreyView, grey_of}
-use Rattle.heap_objects.specs.Marks.{HasCrew}
+use Rattle.heap_objects.specs.Marks.{CrewIsLent}
 use Rattle.heap_objects.proofs.ToldSums.{told_shifted, told_behind}
 
 -- ---- the owner's notes
@@ -51,7 +51,7 @@ empty_of : (shares : List ShareState) → length shares ≡ 0 → shares ≡ []
 empty_of [] none = refl
 empty_of (s ∷ shares) none = absurd (omega (arith, none))
 
-pub has_stepped_alone : (types : List ObjectType) (v w : SeatView) (g : GreyView) (m : Marking) (x : NotesState) (n : ℕ) → g.running ≡ [] → HasCrew v g → IsUnderWay w m x
+pub has_stepped_alone : (types : List ObjectType) (v w : SeatView) (g : GreyView) (m : Marking) (x : NotesState) (n : ℕ) → g.running ≡ [] → CrewIsLent v g → IsUnderWay w m x
     → MarksOn v w → mode_of m ≡ mode_of g.marking
     → ((note : Note) → Contains x.notes note → Contains g.notes.notes note ⊎ IsOfTraced types w note)
     → traced_count w ≡ traced_count v + n → TellsRefused (refusals_of g.marking) (refusals_of m) → TellsRefused (refusals_in g.notes) (refusals_in x)

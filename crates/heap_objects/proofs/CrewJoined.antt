@@ -34,7 +34,7 @@ use Rattle.marker_crew.specs.Drains.{nothing_yet}
 use Rattle.heap_objects.specs.declared.marking.Grey.{Grey}
 use Rattle.heap_objects.specs.Crews.{IsJoined, IsSameHeap, refusals_of_all}
 use Rattle.heap_objects.specs.Marking.{GreyView, HasFound, pushes_in, notes_in}
-use Rattle.heap_objects.specs.Marks.{HasCrew, IsNew, IsOut}
+use Rattle.heap_objects.specs.Marks.{CrewIsLent, IsNewMarker, IsOut}
 use Rattle.heap_objects.proofs.CrewStays.{has_shares}
 use Rattle.heap_objects.proofs.CrewSteps.{noted_pair}
 use Rattle.heap_objects.proofs.Flattened.{in_one, in_all, times_some, some_times}
@@ -46,7 +46,7 @@ use Rattle.heap_objects.proofs.JoinedSeats.{with_seats, joined_is, or_false, sum
 
 -- each marker's beginning and end
 module _ (v : SeatView) (g : GreyView) (ends : List Ending) (w : SeatView) (n : Marking)
-    (way : IsUnderWay v g.marking g.notes) (crew : HasCrew v g) (some : 0 < length g.running) (differ : PlacesDiffer v.bodies)
+    (way : IsUnderWay v g.marking g.notes) (crew : CrewIsLent v g) (some : 0 < length g.running) (differ : PlacesDiffer v.bodies)
     (pushes_told : TellsRefused (record { told = false; count = g.since.pushes }) (pushes_in g))
     (notes_told : TellsRefused (record { told = false; count = g.since.notes }) (notes_in g))
     (many : length ends ≡ length g.running)
@@ -89,7 +89,7 @@ module _ (v : SeatView) (g : GreyView) (ends : List Ending) (w : SeatView) (n : 
   drained : (k : ℕ) → k < length ends → HasDrained (began k) (ended k)
   drained k low = each k (record { seat = new_marker v; share = nobody; notes = no_notes }) nothing low
 
-  new : (k : ℕ) → k < length ends → IsNew v (began k)
+  new : (k : ℕ) → k < length ends → IsNewMarker v (began k)
   new k low = out.began k (record { seat = new_marker v; share = nobody; notes = no_notes }) (omega (arith, low, many))
 
   seat_at : (k : ℕ) → k < length ends → get_or seats k (new_marker v) ≡ (ended k).seat

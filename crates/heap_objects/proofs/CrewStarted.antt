@@ -22,7 +22,7 @@ use Rattle.heap_objects.specs.declared.marking.Grey.{Grey}
 use Rattle.heap_objects.specs.Crews.{Relists, lent_often}
 use Rattle.heap_objects.specs.Refused.{RefusedCounts}
 use Rattle.heap_objects.specs.Marking.{GreyView, IsCleared, grey_of, refused_in, pushes_in}
-use Rattle.heap_objects.specs.Marks.{HasCrew, HasMarking, IsHome, IsNew, IsOut}
+use Rattle.heap_objects.specs.Marks.{CrewIsLent, HasMarking, IsHome, IsNewMarker, IsOut}
 use Rattle.heap_objects.proofs.JoinedSeats.{nothing_taken}
 use Rattle.heap_objects.proofs.CrewStays.{crew_is, crew_told}
 use Rattle.heap_objects.proofs.MarksStored.{view_in}
@@ -44,11 +44,11 @@ begun_shares m (h ∷ shares) [] long = absurd (omega (arith, long))
 begun_shares m (h ∷ shares) (x ∷ groups) long = ap (λ l. h ∷ l) (begun_shares m shares groups (omega (arith, long)))
 
 begun_new : (v : SeatView) (shares : List ShareState) (groups : List NotesState) → length groups ≡ length shares → All IsCleared groups
-    → All (IsNew v) (begun_with (replicate (length shares) (new_marker v)) shares groups)
+    → All (IsNewMarker v) (begun_with (replicate (length shares) (new_marker v)) shares groups)
 begun_new v [] groups long clear = λ k d low. absurd (omega (arith, low))
 begun_new v (h ∷ shares) [] long clear = absurd (omega (arith, long))
 begun_new v (h ∷ shares) (x ∷ groups) long clear =
-    All-cons (IsNew v) (record { seat = new_marker v; share = h; notes = x }) (begun_with (replicate (length shares) (new_marker v)) shares groups)
+    All-cons (IsNewMarker v) (record { seat = new_marker v; share = h; notes = x }) (begun_with (replicate (length shares) (new_marker v)) shares groups)
     (record { seat = refl; notes = All-head IsCleared x groups clear }) (begun_new v shares groups (omega (arith, long)) (All-tail IsCleared x groups clear))
 
 begun_refused : (m : MarkerSeatView) (shares : List ShareState) (groups : List NotesState) → length groups ≡ length shares
@@ -124,7 +124,7 @@ module _ (v : SeatView) (g : GreyView) (list : ListState) (shares : List ShareSt
       r.puts.taken shared.whole there
       ∙ ap taken_by_share (sym own_fresh) ∙ nothing_taken (at (list.shares ++ shares) 0) (shared.fresh.fresh 0 nobody (omega (arith, length-append list.shares shares, one)))
 
-  module _ (way : IsUnderWay v g.marking g.notes) (crew : HasCrew v g) where
+  module _ (way : IsUnderWay v g.marking g.notes) (crew : CrewIsLent v g) where
     home : IsHome g
     home = crew.home calm
 
@@ -151,7 +151,7 @@ module _ (v : SeatView) (g : GreyView) (list : ListState) (shares : List ShareSt
       first = list.shares;
       fresh = subst (AreFresh g.markers list.shares) (sym (ap (map (λ (b : Marker). b.share)) running_is ∙ begun_shares (new_marker v) shares g.others long)) shared.fresh;
       family = r.puts.family shared.whole there;
-      began = subst (All (IsNew w)) (sym running_is) (All-weaker (IsNew v) (IsNew w) (λ b new. record { seat = new.seat; notes = new.notes })
+      began = subst (All (IsNewMarker w)) (sym running_is) (All-weaker (IsNewMarker v) (IsNewMarker w) (λ b new. record { seat = new.seat; notes = new.notes })
           (begun_with (replicate (length shares) (new_marker v)) shares g.others) (begun_new v shares g.others long home.others));
       others = refl;
       refused = r.puts.refused shared.whole there (ap (λ (l : ListState). l.refused) shared.own);
@@ -165,7 +165,7 @@ module _ (v : SeatView) (g : GreyView) (list : ListState) (shares : List ShareSt
     lent : w.lent ≡ length now.running
     lent = omega (arith, crew.lent, ap length calm, many)
 
-    has_crew : g.since.pushes ≤ (refused_in g).pushes → HasCrew w now
+    has_crew : g.since.pushes ≤ (refused_in g).pushes → CrewIsLent w now
     has_crew since = record { lent = lent; home = λ none. absurd (omega (arith, some, many, ap length none)); out = λ is. out since }
 
   same_notes : (refused_in now).notes ≡ (refused_in g).notes

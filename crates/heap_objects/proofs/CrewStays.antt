@@ -8,7 +8,7 @@ use Rattle.page_words.specs.Markers.{new_marker}
 use Rattle.page_words.specs.Seat.{Heap, SeatView, unlooked}
 use Rattle.mark_worklist.specs.Kept.{list-then}
 use Rattle.heap_objects.specs.Marking.{GreyView}
-use Rattle.heap_objects.specs.Marks.{HasCrew, IsNew, IsOut}
+use Rattle.heap_objects.specs.Marks.{CrewIsLent, IsNewMarker, IsOut}
 use Rattle.heap_objects.specs.Crews.{PutsOn}
 use Rattle.heap_objects.proofs.WayChanges.{Leaves}
 
@@ -30,7 +30,7 @@ module _ (v w : SeatView) (g : GreyView) (k : Marking) (leaves : Leaves v w) (pu
         first = out.first;
         fresh = out.fresh;
         family = list-then out.first g.marking.list.shares k.list.shares out.family (puts.family out.shared some);
-        began = All-weaker (IsNew v) (IsNew w)
+        began = All-weaker (IsNewMarker v) (IsNewMarker w)
             (λ m new. record { seat = new.seat ∙ sym (same_marker v w leaves.heap leaves.types); notes = new.notes })
             g.running out.began;
         others = out.others;
@@ -51,7 +51,7 @@ module _ (v w : SeatView) (g : GreyView) (k : Marking) (leaves : Leaves v w) (pu
         ));
       }
 
-  pub crew_on : HasCrew v g → HasCrew w (record g { marking = k })
+  pub crew_on : CrewIsLent v g → CrewIsLent w (record g { marking = k })
   crew_on h = record {
     lent = leaves.lent ∙ h.lent;
     home = λ none.
@@ -75,7 +75,7 @@ out_is v g x = record {
   first = x.first;
   fresh = x.fresh;
   family = x.family;
-  began = All-weaker (IsNew (unlooked v)) (IsNew v) (λ m new. record { seat = new.seat; notes = new.notes }) g.running x.began;
+  began = All-weaker (IsNewMarker (unlooked v)) (IsNewMarker v) (λ m new. record { seat = new.seat; notes = new.notes }) g.running x.began;
   others = x.others;
   refused = x.refused;
   since = x.since;
@@ -92,7 +92,7 @@ out_told v g x = record {
   first = x.first;
   fresh = x.fresh;
   family = x.family;
-  began = All-weaker (IsNew v) (IsNew (unlooked v)) (λ m new. record { seat = new.seat; notes = new.notes }) g.running x.began;
+  began = All-weaker (IsNewMarker v) (IsNewMarker (unlooked v)) (λ m new. record { seat = new.seat; notes = new.notes }) g.running x.began;
   others = x.others;
   refused = x.refused;
   since = x.since;
@@ -102,8 +102,8 @@ out_told v g x = record {
   lone = x.lone;
 }
 
-pub crew_is : (v : SeatView) (g : GreyView) → HasCrew (unlooked v) g → HasCrew v g
+pub crew_is : (v : SeatView) (g : GreyView) → CrewIsLent (unlooked v) g → CrewIsLent v g
 crew_is v g x = record { lent = x.lent; home = x.home; out = λ some. out_is v g (x.out some) }
 
-pub crew_told : (v : SeatView) (g : GreyView) → HasCrew v g → HasCrew (unlooked v) g
+pub crew_told : (v : SeatView) (g : GreyView) → CrewIsLent v g → CrewIsLent (unlooked v) g
 crew_told v g x = record { lent = x.lent; home = x.home; out = λ some. out_told v g (x.out some) }

@@ -34,7 +34,7 @@ use Rattle.marker_crew.specs.Drains.{nothing_yet, AreDealtWith}
 use Rattle.marker_crew.specs.Stages.{drain_stage, MarkerWorks}
 use Rattle.heap_objects.specs.Crews.{IsSameHeap, IsStepped}
 use Rattle.heap_objects.specs.Marking.{GreyView, HasFound, pushes_in}
-use Rattle.heap_objects.specs.Marks.{HasCrew, IsNew, IsOut}
+use Rattle.heap_objects.specs.Marks.{CrewIsLent, IsNewMarker, IsOut}
 use Rattle.heap_objects.proofs.CrewStays.{has_shares}
 use Rattle.heap_objects.proofs.ToldSums.{told_behind}
 use Rattle.heap_objects.proofs.TracedMore.{held_cases, held_first, held_second, none_first, traced_more}
@@ -54,7 +54,7 @@ module _ (w : SeatView) (view : IsView w) (on : w.on ≡ true) (p offset : ℕ) 
 
 -- the owner stepped with a seat that it lent and took back
 module _ (v : SeatView) (g : GreyView) (m : MarkerSeatView) (k : ShareState) (o : NotesState) (d : Drained) (n : Marking) (w : SeatView)
-    (way : IsUnderWay v g.marking g.notes) (crew : HasCrew v g) (some : 0 < length g.running) (differ : PlacesDiffer v.bodies)
+    (way : IsUnderWay v g.marking g.notes) (crew : CrewIsLent v g) (some : 0 < length g.running) (differ : PlacesDiffer v.bodies)
     (pushes_told : TellsRefused (record { told = false; count = g.since.pushes }) (pushes_in g))
     (seat : w ≡ joined_with (lent_from v) m) (view : IsView w)
     (works : MarkerWorks (drain_stage (new_marker v) (at g.marking.list.shares 0) g.notes nothing_yet) (drain_stage m k o d))
@@ -255,7 +255,7 @@ module _ (v : SeatView) (g : GreyView) (m : MarkerSeatView) (k : ShareState) (o 
     first = out.first;
     fresh = out.fresh;
     family = list-then out.first g.marking.list.shares n.list.shares out.family family;
-    began = All-weaker (IsNew v) (IsNew w) (λ began new. record { seat = subst (λ (x : SeatView). began.seat ≡ new_marker x) (sym seat) new.seat; notes = new.notes }) g.running out.began;
+    began = All-weaker (IsNewMarker v) (IsNewMarker w) (λ began new. record { seat = subst (λ (x : SeatView). began.seat ≡ new_marker x) (sym seat) new.seat; notes = new.notes }) g.running out.began;
     others = out.others;
     refused = refused_now ∙ sym (ap (λ (s : ShareState). s.refused) own_now);
     since = out.since;

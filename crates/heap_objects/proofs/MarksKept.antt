@@ -20,7 +20,7 @@ use Rattle.atomic_pause.specs.UnderWay.{IsUnderWay}
 use Rattle.atomic_pause.specs.Nodes.{place_of}
 use Rattle.heap_objects.specs.Finalising.{IsSweptTo}
 use Rattle.heap_objects.specs.Marking.{GreyView}
-use Rattle.heap_objects.specs.Marks.{HasCrew, IsAtRest, IsMayOf, HasMarking, HasMarks}
+use Rattle.heap_objects.specs.Marks.{CrewIsLent, ObjectsAreAtRest, IsMayOf, HasMarking, HasMarks}
 use Rattle.heap_objects.specs.Objects.{ObjectsView}
 use Rattle.heap_objects.proofs.CrewStays.{crew_on}
 use Rattle.heap_objects.proofs.WayChanges.{way_rewritten, rewritten_leaves, puts_same}
@@ -29,9 +29,9 @@ use Rattle.heap_objects.proofs.WayChanges.{way_rewritten, rewritten_leaves, puts
 
 -- what is left as it was while no marking goes on, and what becomes of marking that is under way
 pub record KeepsMarks (limit : ℕ) (may after : List Bool) (o n : ObjectsView) : Type 0 where
-  pub rest : IsAtRest o → IsAtRest n
-  pub quiet : IsAtRest o → IsQuiet o.seat → IsQuiet n.seat
-  pub swept : IsAtRest o → IsSweptTo limit o.seat → IsSweptTo limit n.seat
+  pub rest : ObjectsAreAtRest o → ObjectsAreAtRest n
+  pub quiet : ObjectsAreAtRest o → IsQuiet o.seat → IsQuiet n.seat
+  pub swept : ObjectsAreAtRest o → IsSweptTo limit o.seat → IsSweptTo limit n.seat
   pub marking : HasMarking may o → HasMarking after n
 
 pub marks_by : (phase : Phase) (limit : ℕ) (may : List Bool) (after : Phase → List Bool) (o n : ObjectsView) → KeepsMarks limit may (after Marking) o n
@@ -45,7 +45,7 @@ marks_by Sweeping limit may after o n keeps (rest, swept) = (keeps.rest rest, ke
 -- field words were written, and nothing else
 pub record Writes (v u : SeatView) : Type 0 where
   pub way : (m : MarkingState) (x : NotesState) → IsUnderWay v m x → IsUnderWay u m x
-  pub crew : (g : GreyView) → HasCrew v g → HasCrew u g
+  pub crew : (g : GreyView) → CrewIsLent v g → CrewIsLent u g
   pub may : u.may ≡ v.may
   pub on : u.on ≡ v.on
   pub count : traced_count u ≡ traced_count v

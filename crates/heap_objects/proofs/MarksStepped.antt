@@ -11,7 +11,7 @@ use Rattle.page_words.specs.Seat.{SeatView}
 use Rattle.marker_crew.specs.Marking.{traced_count}
 use Rattle.heap_objects.specs.Crews.{IsStepped}
 use Rattle.heap_objects.specs.Marking.{GreyView, pushes_in, notes_in}
-use Rattle.heap_objects.specs.Marks.{HasCrew, HasMarking}
+use Rattle.heap_objects.specs.Marks.{CrewIsLent, HasMarking}
 use Rattle.heap_objects.proofs.CrewStays.{crew_told}
 use Rattle.heap_objects.proofs.MarksKept.{may_same}
 use Rattle.heap_objects.proofs.MarksStored.{view_in}
@@ -29,7 +29,7 @@ has_stepped shape types callbacks nodes v w g k n may stepped h =
     let now : GreyView = record g { marking = k.marking; notes = k.notes; traced = g.traced + n; found = k.found } in
     subst (λ (x : GreyView). HasMarking may (view_in shape types callbacks nodes w (record x { traced = g.traced + n }))) (sym stepped.rest) (record {
       under_way = way_told w k.marking k.notes stepped.way;
-      crew = crew_told w now (counting w (record g { marking = k.marking; notes = k.notes; found = k.found }) (g.traced + n) (subst (HasCrew w) stepped.rest stepped.crew));
+      crew = crew_told w now (counting w (record g { marking = k.marking; notes = k.notes; found = k.found }) (g.traced + n) (subst (CrewIsLent w) stepped.rest stepped.crew));
       may_is = may_told nodes w may (may_same nodes nodes v w may refl (λ i. refl) (λ i. refl) stepped.same.may (may_is nodes v may h.may_is));
       counted = stepped.counted ∙ ap (λ i. i + n) h.counted;
       pushes_told = told_then (record { told = false; count = g.since.pushes }) (pushes_in g) (pushes_in now) h.pushes_told (subst (λ (x : GreyView). TellsRefused (pushes_in g) (pushes_in x)) stepped.rest stepped.pushes);
@@ -37,7 +37,7 @@ has_stepped shape types callbacks nodes v w g k n may stepped h =
     })
   where
     -- where the markers are is not told by how many objects were traced
-    counting : (u : SeatView) (x : GreyView) (traced : ℕ) → HasCrew u x → HasCrew u (record x { traced = traced })
+    counting : (u : SeatView) (x : GreyView) (traced : ℕ) → CrewIsLent u x → CrewIsLent u (record x { traced = traced })
     counting u x traced is = record {
       lent = is.lent;
       home = λ none. (let home = is.home none in record { whole = home.whole; unshared = home.unshared; paired = home.paired; others = home.others; many = home.many });

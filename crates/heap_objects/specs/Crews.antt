@@ -15,7 +15,7 @@ use Rattle.atomic_pause.specs.UnderWay.{IsReadyToEnd, IsUnderWay}
 use Rattle.heap_objects.specs.declared.crew.CrewLists.{CrewLists}
 use Rattle.heap_objects.specs.declared.marking.Grey.{Grey}
 use Rattle.heap_objects.specs.Marking.{GreyView, HasFound, pushes_in, notes_in}
-use Rattle.heap_objects.specs.Marks.{HasCrew}
+use Rattle.heap_objects.specs.Marks.{CrewIsLent}
 
 -- there are markers: a list with as many shares, of which no call was made, and room for as many seats
 pub record AreListsFor (markers : ℕ) (lists : CrewLists) : Type 0 where
@@ -89,7 +89,7 @@ pub record IsSameHeap (old new : SeatView) : Type 0 where
 pub record IsStepped (v : SeatView) (g : GreyView) (w : SeatView) (k : GreyView) (count : ℕ) : Type 0 where
   pub same : IsSameHeap v w
   pub way : IsUnderWay w k.marking k.notes
-  pub crew : HasCrew w k
+  pub crew : CrewIsLent w k
   pub counted : traced_count w ≡ traced_count v + count
   pub pushes : TellsRefused (pushes_in g) (pushes_in k)
   pub notes : TellsRefused (notes_in g) (notes_in k)

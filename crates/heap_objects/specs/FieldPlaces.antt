@@ -62,13 +62,13 @@ pub extra_is : (setup : Setup) (nodes : List Node) (n size ty none extra : ℕ) 
 extra_is setup nodes n size ty none extra is least rest = omega (arith, is.size_is, least, rest)
 
 -- what the table tells of the field, on the node
-pub record IsTold (node : Node) (f : ℕ) (kind : Kind) (offset : ℕ) : Type 0 where
+pub record IsFieldTold (node : Node) (f : ℕ) (kind : Kind) (offset : ℕ) : Type 0 where
   pub there : f < field_count node
   pub kind_is : kind ≡ kind_of_field node.object f
   pub offset_is : offset ≡ 2 + word_of_field node.object f
 
 field_told : (setup : Setup) (nodes : List Node) (n f size ty extra : ℕ) (found : Kind × ℕ) → IsHead setup nodes n size ty → extra ≡ (node_at nodes n).object.extra
-    → table.IsFieldAt (table.declared_kinds setup.types ty) extra f found → IsTold (node_at nodes n) f found.0 found.1
+    → table.IsFieldAt (table.declared_kinds setup.types ty) extra f found → IsFieldTold (node_at nodes n) f found.0 found.1
 field_told setup nodes n f size ty extra found is extras at = record {
   there = omega (arith, at.there, extras, ap length is.kinds);
   kind_is = at.kind ∙ ap (λ (ks : List Kind). get_or ks f Plain) (sym is.kinds);
@@ -86,7 +86,7 @@ field_answered setup nodes n place f size ty extra allowed None answer is extras
     (sym (le-ltb f (field_count node) (omega (arith, past, extras, ap length is.kinds)))) told
 field_answered setup nodes n place f size ty extra allowed (Some t) answer is extras at there told =
     let node : Node = node_at nodes n in
-    let tells : IsTold node f t.0 t.1 = field_told setup nodes n f size ty extra t is extras there in
+    let tells : IsFieldTold node f t.0 t.1 = field_told setup nodes n f size ty extra t is extras there in
     let build : ℕ → Kind → ℕ → Field = λ place kind word. record { holder = place; kind = kind; word = word } in
     let same : build place t.0 t.1 ≡ field_of nodes n f =
     ap (λ a. build a t.0 t.1) (sym at) ∙ ap (λ k. build (place_of nodes n) k t.1) tells.kind_is
@@ -106,9 +106,9 @@ word_low setup nodes n f field valid is =
     omega (arith, first_word_below o.kinds o.extra f is.there, (live_typed setup nodes n valid is.live).count)
 
 -- the holder has the field's word, and it is of the field's kind
-pub has_word : (setup : Setup) (nodes : List Node) (v : SeatView) (n f : ℕ) (field : Field) (is_so : Kind → Bool) → FieldsStandApart → AreOfValid setup nodes
+pub holder_has_word : (setup : Setup) (nodes : List Node) (v : SeatView) (n f : ℕ) (field : Field) (is_so : Kind → Bool) → FieldsStandApart → AreOfValid setup nodes
     → v.bodies ≡ bodies_of nodes → v.types ≡ setup.types → IsFieldOf nodes n f field → is_so field.kind ≡ true → HasFieldWord is_so v field.holder field.word
-has_word setup nodes v n f field is_so law valid held known is so =
+holder_has_word setup nodes v n f field is_so law valid held known is so =
     let node : Node = node_at nodes n in
     let kinds : List Kind = table.declared_kinds setup.types node.object.ty in
     let word : ℕ = 2 + word_of_field node.object f in

@@ -24,7 +24,7 @@ use Rattle.heap_objects.specs.Marking.{GreyView, IsClear, IsCleared, pushes_in, 
 use Rattle.heap_objects.specs.Objects.{ObjectsView, refused_of, IsLiveAt}
 
 -- no marking goes on, and nothing is left of it
-pub record IsAtRest (o : ObjectsView) : Type 0 where
+pub record ObjectsAreAtRest (o : ObjectsView) : Type 0 where
   pub off : o.seat.on ≡ false
   pub clear : IsClear o.grey
 
@@ -44,7 +44,7 @@ pub record IsHome (g : GreyView) : Type 0 where
   pub many : length g.others ≡ g.markers
 
 -- a marker began with a seat that knew nothing, and noted nothing
-pub record IsNew (v : SeatView) (m : Marker) : Type 0 where
+pub record IsNewMarker (v : SeatView) (m : Marker) : Type 0 where
   pub seat : m.seat ≡ new_marker v
   pub notes : IsCleared m.notes
 
@@ -58,7 +58,7 @@ pub record IsOut (v : SeatView) (g : GreyView) : Type 0 where
   pub first : List ShareState
   pub fresh : AreFresh g.markers first (map (λ m. m.share) g.running)
   pub family : IsSameList first g.marking.list.shares
-  pub began : All (IsNew v) g.running
+  pub began : All (IsNewMarker v) g.running
   pub others : g.others ≡ []
   pub refused : g.marking.list.refused ≡ (at g.marking.list.shares 0).refused
   pub since : g.since.pushes ≤ g.earlier
@@ -72,7 +72,7 @@ pub record IsOut (v : SeatView) (g : GreyView) : Type 0 where
       → Contains (taken_by_share (at g.marking.list.shares 0)) note.holder × (Contains v.missed note.holder ⊎ (v.count ≤ note.holder))
 
 -- as many seats are lent as markers run, and these are at home or out
-pub record HasCrew (v : SeatView) (g : GreyView) : Type 0 where
+pub record CrewIsLent (v : SeatView) (g : GreyView) : Type 0 where
   pub lent : v.lent ≡ length g.running
   pub home : g.running ≡ [] → IsHome g
   pub out : 0 < length g.running → IsOut v g
@@ -81,7 +81,7 @@ pub record HasCrew (v : SeatView) (g : GreyView) : Type 0 where
 -- crew is at home or out, and that a push or a note was refused comes to be told since it began exactly where the count rose
 pub record HasMarking (may : List Bool) (o : ObjectsView) : Type 0 where
   pub under_way : IsUnderWay o.seat o.grey.marking o.grey.notes
-  pub crew : HasCrew o.seat o.grey
+  pub crew : CrewIsLent o.seat o.grey
   pub may_is : IsMayOf o.nodes o.seat may
   pub counted : traced_count o.seat ≡ o.grey.traced
   pub pushes_told : TellsRefused (record { told = false; count = o.grey.since.pushes }) (pushes_in o.grey)
@@ -89,14 +89,14 @@ pub record HasMarking (may : List Bool) (o : ObjectsView) : Type 0 where
 
 -- marking goes on, or nothing is left of it
 abbrev pub GoesOnOrRests : ObjectsView → Type 0
-GoesOnOrRests o = ((may : List Bool) × HasMarking may o) ⊎ IsAtRest o
+GoesOnOrRests o = ((may : List Bool) × HasMarking may o) ⊎ ObjectsAreAtRest o
 
 -- nothing is marked while the heap is idle; while marking goes on, these nodes may be kept; in an open sweep nothing is marked
 -- below the address up to which all is swept, and from there on each object is marked or dead
 abbrev pub HasMarks : Phase → ℕ → List Bool → ObjectsView → Type 0
-HasMarks Idle limit may o = IsAtRest o × IsQuiet o.seat
+HasMarks Idle limit may o = ObjectsAreAtRest o × IsQuiet o.seat
 HasMarks Marking limit may o = HasMarking may o
-HasMarks Sweeping limit may o = IsAtRest o × IsSweptTo limit o.seat
+HasMarks Sweeping limit may o = ObjectsAreAtRest o × IsSweptTo limit o.seat
 
 -- how much had been refused when marking began stays, and while no marking goes on nothing is refused
 pub record IsTellingOn (old new : ObjectsView) : Type 0 where

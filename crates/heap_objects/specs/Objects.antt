@@ -27,8 +27,8 @@ abbrev pub refused_of : ObjectsView → RefusedCounts
 refused_of o = refused_in o.grey
 
 -- what the objects tell of refusals
-abbrev pub told_of : ObjectsView → RefusalsTold
-told_of o = record { now = refused_of o; since = o.grey.since }
+abbrev pub refusals_told_of : ObjectsView → RefusalsTold
+refusals_told_of o = record { now = refused_of o; since = o.grey.since }
 
 -- what was set up
 abbrev pub setup_of_objects : ObjectsView → Setup

@@ -11,7 +11,7 @@ ghost use Rattle.atomic_pause.specs.UnderWay.{IsUnderWay};
 ghost use Rattle.marker_crew.specs.Crews.{IsCrew};
 ghost use Rattle.heap_objects.specs.Crews.{AreListsFor, Relists, IsJoined, lent_often};
 ghost use Rattle.heap_objects.specs.Marking.{HasFound, grey_of, pushes_in, notes_in};
-ghost use Rattle.heap_objects.specs.Marks.{GoesOnOrRests, HasCrew, HasMarking};
+ghost use Rattle.heap_objects.specs.Marks.{GoesOnOrRests, CrewIsLent, HasMarking};
 ghost use Rattle.heap_objects.specs.Objects.{setup_of_objects};
 
 use crate::marking::{Grey, nowhere, refused_pushes, tell_refused};
@@ -119,7 +119,7 @@ pub(crate) fn gather<R: Threads>(
 ) -> u32
     requires heap { IsSeatOf space.now seat.old }
     requires way { IsUnderWay seat.old grey.old.marking (grey_of grey.old).notes }
-    requires crew { HasCrew seat.old (grey_of grey.old) }
+    requires crew { CrewIsLent seat.old (grey_of grey.old) }
     requires differ { PlacesDiffer seat.old.bodies }
     requires pushes { TellsRefused
         (record { told = false; count = (grey_of grey.old).since.pushes })
@@ -146,7 +146,7 @@ fn join_crew<R: Threads>(rt: &R, space: &Space, seat: &mut MutatorSeat, grey: &m
     requires running { 0 < length grey.old.crew.running }
     requires whole { IsCrew grey.old.crew }
     requires way { IsUnderWay seat.old grey.old.marking (grey_of grey.old).notes }
-    requires crew { HasCrew seat.old (grey_of grey.old) }
+    requires crew { CrewIsLent seat.old (grey_of grey.old) }
     requires differ { PlacesDiffer seat.old.bodies }
     requires pushes { TellsRefused
         (record { told = false; count = (grey_of grey.old).since.pushes })

@@ -6,7 +6,7 @@ ghost use Rattle.page_space.specs.Pages.{word_count};
 ghost use Rattle.sweeper.specs.Sweeping.{cursor_at, dead_between};
 ghost use Rattle.atomic_pause.specs.Nodes.{AreOfValid};
 ghost use Rattle.heap_objects.specs.Finalising.{IsSweptTo, FinalisesBelow, AreFewTold};
-ghost use Rattle.heap_objects.specs.Marks.{IsAtRest};
+ghost use Rattle.heap_objects.specs.Marks.{ObjectsAreAtRest};
 ghost use Rattle.heap_objects.specs.Objects.{setup_of_objects};
 
 use crate::nodes;
@@ -19,7 +19,7 @@ impl Objects {
     pub fn finalise_page(&mut self, sweep: &mut Sweep, finalised: &mut Vec<u32>) -> u32
         requires pages { sweep.old.pages ≡ self.old.shape.pages }
         requires open { sweep.old.cursor < sweep.old.pages }
-        requires rest { IsAtRest self.old }
+        requires rest { ObjectsAreAtRest self.old }
         requires marks { IsSweptTo (cursor_at self.old.shape sweep.old) self.old.seat }
         requires valid { AreOfValid (setup_of_objects self.old) self.old.nodes }
         requires few { length self.old.nodes ≤ 1000000 }
@@ -36,7 +36,7 @@ impl Objects {
             self.new.seat finalised.new.items }
         ensures room { vec_capacity finalised.new ≡ vec_capacity finalised.old }
         ensures setup { setup_of_objects self.new ≡ setup_of_objects self.old }
-        ensures rest { IsAtRest self.new }
+        ensures rest { ObjectsAreAtRest self.new }
         ensures grey { self.new.grey ≡ self.old.grey }
     {
         self.seat.bodies_lie_apart();
@@ -50,7 +50,7 @@ impl Objects {
     /// that are in `finalised`. Answers how many these are.
     pub fn finalise_rest(&mut self, sweep: &mut Sweep, finalised: &mut Vec<u32>) -> u32
         requires pages { sweep.old.pages ≡ self.old.shape.pages }
-        requires rest { IsAtRest self.old }
+        requires rest { ObjectsAreAtRest self.old }
         requires marks { IsSweptTo (cursor_at self.old.shape sweep.old) self.old.seat }
         requires valid { AreOfValid (setup_of_objects self.old) self.old.nodes }
         requires few { length self.old.nodes ≤ 1000000 }
@@ -65,7 +65,7 @@ impl Objects {
         ensures told { 2 * length finalised.new.items ≤ word_count self.old.shape }
         ensures room { vec_capacity finalised.new ≡ vec_capacity finalised.old }
         ensures setup { setup_of_objects self.new ≡ setup_of_objects self.old }
-        ensures rest { IsAtRest self.new }
+        ensures rest { ObjectsAreAtRest self.new }
         ensures grey { self.new.grey ≡ self.old.grey }
     {
         self.seat.bodies_lie_apart();

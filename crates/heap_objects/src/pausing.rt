@@ -19,7 +19,7 @@ ghost use Rattle.atomic_pause.specs.PlacesInWords.{places_of_slots, BodiesAreJud
 ghost use Rattle.atomic_pause.specs.Pausing.{IsPaused, NamePlaces, hits_in};
 ghost use Rattle.atomic_pause.specs.Pausing.{IsPausable, IsPausedRegion, shared_roots};
 ghost use Rattle.heap_objects.specs.Crews.{IsIdleOrLong, KeepsTaken};
-ghost use Rattle.heap_objects.specs.Marks.{IsAtRest, HasMarking, NameRoots, TellsRoots};
+ghost use Rattle.heap_objects.specs.Marks.{ObjectsAreAtRest, HasMarking, NameRoots, TellsRoots};
 ghost use Rattle.heap_objects.specs.Objects.{setup_of_objects, refused_of};
 ghost use Rattle.heap_objects.specs.Refused.{IsToldTruly};
 
@@ -52,7 +52,7 @@ impl Objects {
     pub fn begin(&mut self, strong: &Slots, told: &[u32])
         ghost roots: { List ℕ }
         requires valid { AreOfValid (setup_of_objects self.old) self.old.nodes }
-        requires rest { IsAtRest self.old }
+        requires rest { ObjectsAreAtRest self.old }
         requires quiet { IsQuiet self.old.seat }
         requires roots { AreLive self.old.nodes roots }
         requires slots { NameRoots self.old.nodes roots strong.now }
@@ -159,7 +159,7 @@ impl Objects {
             weak.new ≡ places_of_slots self.new.nodes
             (map (clear_slot (is_dead_at self.new.nodes)) slots) }
         ensures region { IsPausedRegion self.new.nodes region.old pass.old region.new pass.new }
-        ensures rest { IsAtRest self.new }
+        ensures rest { ObjectsAreAtRest self.new }
         ensures judged { BodiesAreJudged self.new.seat }
         ensures kept { result.pause.kept ≡ live_count self.new.nodes }
         ensures dead { result.pause.dead ≡ dead_count self.new.nodes }

@@ -7,7 +7,7 @@ ghost use Rattle.marker_crew.specs.BodyGraph.{PlacesDiffer};
 ghost use Rattle.atomic_pause.specs.UnderWay.{IsUnderWay};
 ghost use Rattle.heap_objects.specs.Crews.{IsIdleOrLong, IsStepped};
 ghost use Rattle.heap_objects.specs.Marking.{HasFound, grey_of, pushes_in};
-ghost use Rattle.heap_objects.specs.Marks.{HasCrew};
+ghost use Rattle.heap_objects.specs.Marks.{CrewIsLent};
 
 use crate::marking::{Grey, found_traced, tell_refused};
 use atomic_pause::trace_listed;
@@ -27,7 +27,7 @@ pub(crate) fn step(
     requires heap { IsSeatOf space.now seat.old }
     requires types { types.now ≡ seat.old.types }
     requires way { IsUnderWay seat.old grey.old.marking (grey_of grey.old).notes }
-    requires crew { HasCrew seat.old (grey_of grey.old) }
+    requires crew { CrewIsLent seat.old (grey_of grey.old) }
     requires differ { PlacesDiffer seat.old.bodies }
     requires own { 0 < length grey.old.crew.notes }
     requires pushes { TellsRefused
@@ -61,7 +61,7 @@ fn step_alone(
     requires types { types.now ≡ seat.old.types }
     requires home { grey.old.crew.running ≡ [] }
     requires way { IsUnderWay seat.old grey.old.marking (grey_of grey.old).notes }
-    requires crew { HasCrew seat.old (grey_of grey.old) }
+    requires crew { CrewIsLent seat.old (grey_of grey.old) }
     requires differ { PlacesDiffer seat.old.bodies }
     requires own { 0 < length grey.old.crew.notes }
     ensures stepped { IsStepped seat.old (grey_of grey.old) seat.new (grey_of grey.new) result }
@@ -92,7 +92,7 @@ fn step_beside(
     requires types { types.now ≡ seat.old.types }
     requires running { 0 < length grey.old.crew.running }
     requires way { IsUnderWay seat.old grey.old.marking (grey_of grey.old).notes }
-    requires crew { HasCrew seat.old (grey_of grey.old) }
+    requires crew { CrewIsLent seat.old (grey_of grey.old) }
     requires differ { PlacesDiffer seat.old.bodies }
     requires own { 0 < length grey.old.crew.notes }
     requires pushes { TellsRefused

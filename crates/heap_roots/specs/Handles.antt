@@ -2,7 +2,7 @@
 use Rattle.std.specs.Prelude.{ℕ, List, Option, Some, None, option_map, slice_set, slice_index_or}
 use Rattle.gc_graph.specs.State.{StackWord}
 use Rattle.object_headers.specs.Offsets.{reference_to}
-use Rattle.heap_roots.specs.Stack.{StackView, with_word, without_last}
+use Rattle.heap_roots.specs.Stack.{StackView, stack_with_word, without_last}
 
 -- the strong slots and the weak ones: the place in each, and the node that each names; and the stack
 pub record HandlesView : Type 0 where
@@ -50,7 +50,7 @@ weakened_in h w p = record h {
 
 -- the word is the last of the stack, with its address and its place
 abbrev pub pushed_in : HandlesView → StackWord → ℕ → Option ℕ → HandlesView
-pushed_in h word address place = record h { stack = with_word h.stack word address place }
+pushed_in h word address place = record h { stack = stack_with_word h.stack word address place }
 
 -- the last word of the stack was taken away
 abbrev pub popped_in : HandlesView → HandlesView

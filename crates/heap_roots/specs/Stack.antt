@@ -19,7 +19,7 @@ abbrev pub empty_stack : StackView
 empty_stack = record { words = []; addresses = []; places = [] }
 
 -- each word has its address and its place, for 1,024 of which there is room
-pub record HasRoom (s : StackView) (addresses places : ℕ) : Type 0 where
+pub record HasStackRoom (s : StackView) (addresses places : ℕ) : Type 0 where
   pub for_addresses : 1024 ≤ addresses
   pub for_places : 1024 ≤ places
   pub addressed : length s.addresses ≡ length s.words
@@ -48,8 +48,8 @@ pointer_into None offset = Number 0
 pointer_into (Some n) offset = Pointer n offset
 
 -- the word was pushed, with its address and its place
-abbrev pub with_word : StackView → StackWord → ℕ → Option ℕ → StackView
-with_word s word address place = record { words = word ∷ s.words; addresses = s.addresses ++ address ∷ []; places = s.places ++ place ∷ [] }
+abbrev pub stack_with_word : StackView → StackWord → ℕ → Option ℕ → StackView
+stack_with_word s word address place = record { words = word ∷ s.words; addresses = s.addresses ++ address ∷ []; places = s.places ++ place ∷ [] }
 
 -- the last word was taken away
 abbrev pub without_last : StackView → StackView

@@ -90,12 +90,12 @@ pointer_at nodes (Pointer n offset ∷ words) (suc i) a live is = pointer_at nod
 pointer_at nodes (Number w ∷ words) (suc i) a live is = pointer_at nodes words i a live is
 
 -- where it has none, it is a number
-pub number_in : (nodes : List Node) (words : List StackWord) (i : ℕ) → slice_get (map (pointed_place nodes) words) i ≡ Some None → (w : ℕ) × (slice_get words i ≡ Some (Number w))
-number_in nodes [] i is = cc
-number_in nodes (Pointer n offset ∷ words) zero is = (let never : Some (place_of nodes n) ≡ None = cc in cc)
-number_in nodes (Number w ∷ words) zero is = (w, refl)
-number_in nodes (Pointer n offset ∷ words) (suc i) is = number_in nodes words i is
-number_in nodes (Number w ∷ words) (suc i) is = number_in nodes words i is
+pub number_without_place : (nodes : List Node) (words : List StackWord) (i : ℕ) → slice_get (map (pointed_place nodes) words) i ≡ Some None → (w : ℕ) × (slice_get words i ≡ Some (Number w))
+number_without_place nodes [] i is = cc
+number_without_place nodes (Pointer n offset ∷ words) zero is = (let never : Some (place_of nodes n) ≡ None = cc in cc)
+number_without_place nodes (Number w ∷ words) zero is = (w, refl)
+number_without_place nodes (Pointer n offset ∷ words) (suc i) is = number_without_place nodes words i is
+number_without_place nodes (Number w ∷ words) (suc i) is = number_without_place nodes words i is
 
 pub no_word : (nodes : List Node) (words : List StackWord) (i : ℕ) → slice_get (map (pointed_place nodes) words) i ≡ None → slice_get words i ≡ None
 no_word nodes [] i is = refl

@@ -17,7 +17,7 @@ ghost use Rattle.page_words.specs.Seat.{IsQuiet};
 ghost use Rattle.heap_objects.specs.Nodes.{AreOfValid};
 ghost use Rattle.heap_objects.specs.PlacesInWords.{places_of_slots, BodiesAreJudged};
 ghost use Rattle.heap_objects.specs.Pausing.{IsPaused, hits_in};
-ghost use Rattle.heap_objects.specs.Marks.{IsAtRest, HasMarking};
+ghost use Rattle.heap_objects.specs.Marks.{ObjectsAreAtRest, HasMarking};
 ghost use Rattle.heap_objects.specs.Objects.{setup_of_objects, refused_of};
 ghost use Rattle.heap_objects.specs.Refused.{IsToldTruly};
 ghost use Rattle.heap_roots.specs.Region.{IsHandled, HasPauseEntry, roots_in};
@@ -41,7 +41,7 @@ impl Handles {
         requires told { told.now ≡ start_told region.now 32 }
         requires shared { IsHandled objects.old.nodes region.now }
         requires valid { AreOfValid (setup_of_objects objects.old) objects.old.nodes }
-        requires rest { IsAtRest objects.old }
+        requires rest { ObjectsAreAtRest objects.old }
         requires quiet { IsQuiet objects.old.seat }
         requires slots { self.now.places ≡ places_of_slots objects.old.nodes self.now.slots }
         requires live { AreLive objects.old.nodes (slot_targets self.now.slots) }
@@ -104,7 +104,7 @@ impl Handles {
           weak = map (clear_slot (is_dead_at objects.new.nodes)) self.old.weak;
         } }
         ensures region { HasPauseEntry objects.new.nodes region.old region.new }
-        ensures rest { IsAtRest objects.new }
+        ensures rest { ObjectsAreAtRest objects.new }
         ensures judged { BodiesAreJudged objects.new.seat }
         ensures kept { result.pause.kept ≡ live_count objects.new.nodes }
         ensures dead { result.pause.dead ≡ dead_count objects.new.nodes }

@@ -4,7 +4,7 @@
 ghost use Rattle.std.specs.Prelude.{◌≡◌, ◌<◌, length, reverse, nat_lt, None, IfOk, slice_get};
 ghost use Rattle.gc_graph.specs.CycleSteps.{is_stack_refused};
 ghost use Rattle.gc_graph.specs.State.StackWord.{Number};
-ghost use Rattle.heap_roots.specs.Stack.{empty_stack, with_word, without_last};
+ghost use Rattle.heap_roots.specs.Stack.{empty_stack, stack_with_word, without_last};
 
 use crate::stack_words::{self, StackWords, WordLists};
 use gc_graph::{NoMemory, Want};
@@ -50,7 +50,7 @@ pub struct Stack {
 
 impl Model for Stack {
     ghost use Rattle.std.specs.Prelude.{vec_capacity};
-    ghost use Rattle.heap_roots.specs.Stack.{StackView, HasRoom};
+    ghost use Rattle.heap_roots.specs.Stack.{StackView, HasStackRoom};
 
     ghost Value = { StackView };
 
@@ -60,7 +60,7 @@ impl Model for Stack {
       places = s.places.items;
     } };
 
-    ghost invariant = { λ s. HasRoom (record {
+    ghost invariant = { λ s. HasStackRoom (record {
       words = s.words.value;
       addresses = s.addresses.items;
       places = s.places.items;
@@ -130,7 +130,7 @@ impl Stack {
     pub fn push(&mut self, pushed: Pushed)
         requires { length self.old.words < 1024 }
         ensures { self.new
-            ≡ with_word self.old pushed.word.value pushed.address pushed.place }
+            ≡ stack_with_word self.old pushed.word.value pushed.address pushed.place }
     {
         self.words = stack_words::pushed(&self.words, &pushed.word);
         self.addresses.push_reserved(pushed.address);

@@ -7,7 +7,7 @@ use Rattle.gc_graph.specs.Valid.{AreLive, region_targets}
 use Rattle.page_words.specs.Seat.{IsQuiet}
 use Rattle.sweeper.specs.Sweeping.{cursor_at}
 use Rattle.heap_roots.specs.Nodes.{place_of}
-use Rattle.heap_roots.specs.Marks.{IsAtRest, HasMarking, HasMarks}
+use Rattle.heap_roots.specs.Marks.{ObjectsAreAtRest, HasMarking, HasMarks}
 use Rattle.heap_roots.specs.Region.{IsHandled}
 use Rattle.heap_cycle.specs.declared.parts.Parts.{Parts}
 use Rattle.heap_cycle.specs.Changes.{begun_from}
@@ -18,7 +18,7 @@ use Rattle.heap_cycle.proofs.StartSteps.{Begins, begun_ready}
 use Rattle.heap_cycle.proofs.beginning.mark_roots.Goals as goal
 
 -- an idle heap is at rest, and nothing in it is marked
-idle_marks : (s : Parts) → IsReady s → s.cycle.phase ≡ Idle → IsAtRest s.objects × IsQuiet s.objects.seat
+idle_marks : (s : Parts) → IsReady s → s.cycle.phase ≡ Idle → ObjectsAreAtRest s.objects × IsQuiet s.objects.seat
 idle_marks s ready idle = subst (λ ph. HasMarks ph (cursor_at s.objects.shape s.cycle.sweep) s.cycle.rest.may s.objects) idle ready.tied.marks
 
 pub begin-requires : goal.begin-requires

@@ -12,7 +12,7 @@ use Rattle.gc_graph.specs.Pause.{dying_slots}
 use Rattle.gc_graph.specs.State.{Setup}
 use Rattle.cross_thread_region.specs.declared.chronicle.PlacedEntry.{PlacedEntry}
 use Rattle.cross_thread_region.specs.Histories.{slots_of}
-use Rattle.heap_roots.specs.Objects.{refused_of, told_of}
+use Rattle.heap_roots.specs.Objects.{refused_of, refusals_told_of}
 use Rattle.heap_roots.specs.Refused.{IsToldTruly, RefusalsTold}
 use Rattle.heap_roots.specs.Stack.{StackView}
 use Rattle.heap_cycle.specs.declared.parts.Parts.{Parts}
@@ -99,13 +99,13 @@ returns-clause-frame g c =
     let begun = c.in-Ok.ensures.begun in
     let paused = c.pause-result.ensures.paused 0 (λ none. begun.home) in
     let calm : is_marking s.cycle.phase ≡ false = sym c.is_marking-marks.ensures ∙ c.if-marks.false in
-    let truly : IsToldTruly (refused_before s.cycle.phase (told_of s.objects)) (refused_of new.objects) c.pause-result.result.pause.walked =
+    let truly : IsToldTruly (refused_before s.cycle.phase (refusals_told_of s.objects)) (refused_of new.objects) c.pause-result.result.pause.walked =
     subst (λ since. IsToldTruly since (refused_of new.objects) c.pause-result.result.pause.walked)
-    (begun.since ∙ sym (before_calm s.cycle.phase (told_of s.objects) calm)) paused.walked in
+    (begun.since ∙ sym (before_calm s.cycle.phase (refusals_told_of s.objects) calm)) paused.walked in
     record {
       setup = paused.setup ∙ begun.setup;
       ordinal = omega (arith, paused.ordinal, begun.ordinal);
       tied = tied_counted new paused.tied;
       manned = λ manned. manned_calm (counted new) Sweeping paused.phase refl;
-      refused = subst (IsWalkTold s.cycle.phase (told_of s.objects) (told_of new.objects)) (sym c.line_of.ensures) truly;
+      refused = subst (IsWalkTold s.cycle.phase (refusals_told_of s.objects) (refusals_told_of new.objects)) (sym c.line_of.ensures) truly;
     }

@@ -15,7 +15,7 @@ use Rattle.gc_graph.specs.State.{Setup, State}
 use Rattle.cross_thread_region.specs.declared.chronicle.PlacedEntry.{PlacedEntry}
 use Rattle.cross_thread_region.specs.Calls.{placed_entry_of, first_pass, history_with_own}
 use Rattle.cross_thread_region.specs.Histories.{entries_of, slots_of}
-use Rattle.heap_roots.specs.Objects.{refused_of, told_of}
+use Rattle.heap_roots.specs.Objects.{refused_of, refusals_told_of}
 use Rattle.heap_roots.specs.Refused.{IsToldTruly}
 use Rattle.heap_roots.specs.Stack.{StackView}
 use Rattle.heap_cycle.specs.declared.parts.Parts.{Parts}
@@ -142,8 +142,8 @@ returns-clause-frame g c =
       ordinal = omega (arith, paused.ordinal, ordinal);
       tied = tied_counted new paused.tied;
       manned = λ manned. manned_calm (counted new) Sweeping paused.phase refl;
-      refused = subst (IsWalkTold s.cycle.phase (told_of s.objects) (told_of new.objects)) (sym c.line_of.ensures)
-          (subst (λ phase. IsToldTruly (refused_before phase (told_of s.objects)) (refused_of new.objects) c.pause-result.result.pause.walked)
+      refused = subst (IsWalkTold s.cycle.phase (refusals_told_of s.objects) (refusals_told_of new.objects)) (sym c.line_of.ensures)
+          (subst (λ phase. IsToldTruly (refused_before phase (refusals_told_of s.objects)) (refused_of new.objects) c.pause-result.result.pause.walked)
           (sym (phase_marks s.cycle.phase marks)) truly);
     }
 

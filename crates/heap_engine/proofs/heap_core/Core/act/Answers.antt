@@ -19,7 +19,7 @@ use Rattle.cross_thread_region.specs.Histories.{entries_of}
 use Rattle.marker_core.specs.Bodies.{holds}
 use Rattle.heap_cycle.specs.PlacesInWords.{kept_of}
 use Rattle.heap_cycle.specs.Crews.{IsIdleOrLong}
-use Rattle.heap_cycle.specs.Objects.{HaveCallbacks, told_of}
+use Rattle.heap_cycle.specs.Objects.{HaveCallbacks, refusals_told_of}
 use Rattle.heap_cycle.specs.Refused.{RefusalsTold}
 use Rattle.heap_cycle.specs.declared.parts.Parts.{Parts}
 use Rattle.heap_cycle.specs.declared.shared.Shared.{Shared}

@@ -6,7 +6,7 @@ use Rattle.marker_core.specs.Bodies.{holds}
 use Rattle.cross_thread_region.specs.Histories.{entries_of}
 use Rattle.page_words.specs.Seat.{Heap}
 use Rattle.heap_cycle.specs.PlacesInWords.{kept_of}
-use Rattle.heap_cycle.specs.Objects.{told_of}
+use Rattle.heap_cycle.specs.Objects.{refusals_told_of}
 use Rattle.heap_cycle.specs.declared.parts.Parts.{Parts}
 use Rattle.heap_cycle.specs.declared.shared.Shared.{Shared}
 use Rattle.heap_cycle.specs.Parts.{state_of}
@@ -56,7 +56,7 @@ pub returns-clause-traced : goal.returns-clause-traced
 returns-clause-traced d c = ap (λ (s : Parts). kept_of (holds s.objects.seat.traced) s.objects.nodes) (are_empty d c)
 
 pub returns-clause-refusals : goal.returns-clause-refusals
-returns-clause-refusals d c = ap (λ (s : Parts). told_of s.objects) (are_empty d c) ∙ refusals_empty c.args.config.markers
+returns-clause-refusals d c = ap (λ (s : Parts). refusals_told_of s.objects) (are_empty d c) ∙ refusals_empty c.args.config.markers
 
 pub returns-clause-history : goal.returns-clause-history
 returns-clause-history d c = ap (λ (h : Shared). entries_of (taken_of h)) c.in_ok-shared.ensures

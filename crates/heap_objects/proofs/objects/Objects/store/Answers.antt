@@ -14,7 +14,7 @@ use Rattle.heap_objects.specs.Fields.{TakesWord, kept_word}
 use Rattle.heap_objects.specs.Objects.{written_in}
 use Rattle.atomic_pause.specs.NodePlaces.{live_is_there}
 use Rattle.heap_objects.specs.FieldNodes.{with_field, length-field, place-field, life-field}
-use Rattle.heap_objects.specs.FieldPlaces.{has_word, word_low}
+use Rattle.heap_objects.specs.FieldPlaces.{holder_has_word, word_low}
 use Rattle.heap_objects.specs.FieldReads.{takes_word}
 use Rattle.heap_objects.proofs.HeldNodes.{held_stored}
 use Rattle.heap_objects.proofs.MarksKept.{writes_one}
@@ -27,7 +27,7 @@ pub write_field-requires-clause-field : goal.write_field-requires-clause-field
 write_field-requires-clause-field c =
     let setup : Setup = record { shape = c.self.inside.space.shape; markers = c.self.inside.grey.crew.markers; types = (arc_value c.self.inside.types); callbacks = c.self.inside.kinds.value } in
     let is = rw (← c.self.view_is) at c.requires.field in
-    has_word setup c.self.inside.nodes.value c.self.inside.seat is.0 c.args.f c.args.field (is_kind c.args.field.kind) c.fields_stand_apart.ensures
+    holder_has_word setup c.self.inside.nodes.value c.self.inside.seat is.0 c.args.f c.args.field (is_kind c.args.field.kind) c.fields_stand_apart.ensures
     (rw (← c.self.view_is) at c.requires.valid) c.self.invariant.held.bodies c.self.invariant.known is.2 (kind_itself c.args.field.kind)
 
 pub write_field-requires-clause-word : goal.write_field-requires-clause-word

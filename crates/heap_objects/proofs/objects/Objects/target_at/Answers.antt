@@ -3,7 +3,7 @@ use Rattle.std.proofs.Common.{List}
 use Rattle.gc_graph.specs.State.{Setup, Node}
 use Rattle.gc_graph.specs.Fields.{is_reference}
 use Rattle.heap_objects.specs.Fields.{value_in}
-use Rattle.heap_objects.specs.FieldPlaces.{has_word}
+use Rattle.heap_objects.specs.FieldPlaces.{holder_has_word}
 use Rattle.heap_objects.specs.FieldReads.{reads_reference}
 use Rattle.heap_objects.proofs.objects.Objects.target_at.Goals as goal
 
@@ -11,7 +11,7 @@ pub get-reference-requires-clause-field : goal.get-reference-requires-clause-fie
 get-reference-requires-clause-field c =
     let setup : Setup = record { shape = c.self.inside.space.shape; markers = c.self.inside.grey.crew.markers; types = (arc_value c.self.inside.types); callbacks = c.self.inside.kinds.value } in
     let is = rw (← c.self.view_is) at c.requires.field in
-    has_word setup c.self.inside.nodes.value c.self.inside.seat is.0 is.1 c.args.field is_reference c.fields_stand_apart.ensures
+    holder_has_word setup c.self.inside.nodes.value c.self.inside.seat is.0 is.1 c.args.field is_reference c.fields_stand_apart.ensures
     (rw (← c.self.view_is) at c.requires.valid) c.self.invariant.held.bodies c.self.invariant.known is.2 c.requires.reference
 
 pub named_by-requires-clause-reference : goal.named_by-requires-clause-reference

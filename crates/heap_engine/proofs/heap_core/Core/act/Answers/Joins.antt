@@ -9,7 +9,7 @@ use Rattle.gc_graph.specs.State.{State}
 use Rattle.gc_graph.specs.Step.{Step}
 use Rattle.gc_graph.specs.ThreadLaw.{IsCounted}
 use Rattle.gc_graph.specs.Valid.{IsValid}
-use Rattle.heap_cycle.specs.Objects.{told_of}
+use Rattle.heap_cycle.specs.Objects.{refusals_told_of}
 use Rattle.heap_cycle.specs.declared.parts.Parts.{Parts}
 use Rattle.heap_cycle.specs.declared.shared.Shared.{Shared}
 use Rattle.heap_cycle.specs.Parts.{setup_of, state_of, counted, IsManned, IsReady}
@@ -140,10 +140,10 @@ module _
       (totals_joined c.self.inside.going.value c.begin-2.new.self j.count told))
 
   pub walks :
-      IsWalkToldIn c.self.inside.parts.cycle.phase (told_of c.self.inside.parts.objects) (told_of c.run.new.parts.objects)
+      IsWalkToldIn c.self.inside.parts.cycle.phase (refusals_told_of c.self.inside.parts.objects) (refusals_told_of c.run.new.parts.objects)
       (told_lines c.run.new.shared ++ outcome_lines c.run.new.outcome c.count_command.new.self.ran)
   walks =
-      subst (IsWalkToldIn c.self.inside.parts.cycle.phase (told_of c.self.inside.parts.objects) (told_of c.run.new.parts.objects)) (sym all_lines)
+      subst (IsWalkToldIn c.self.inside.parts.cycle.phase (refusals_told_of c.self.inside.parts.objects) (refusals_told_of c.run.new.parts.objects)) (sym all_lines)
       (walk_joined _ _ _ c.run.new.shared j.count replies.replies
       (tells_same _ _ _ (told_by c.self.inside.parts.objects c.run.new.parts.objects j.grey)))
 

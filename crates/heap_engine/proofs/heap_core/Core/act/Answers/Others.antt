@@ -15,7 +15,7 @@ use Rattle.cross_thread_region.specs.Histories.{entries_of}
 use Rattle.marker_core.specs.Bodies.{holds}
 use Rattle.heap_cycle.specs.PlacesInWords.{kept_of}
 use Rattle.heap_cycle.specs.Crews.{IsIdleOrLong}
-use Rattle.heap_cycle.specs.Objects.{HaveCallbacks, told_of}
+use Rattle.heap_cycle.specs.Objects.{HaveCallbacks, refusals_told_of}
 use Rattle.heap_cycle.specs.Refused.{RefusalsTold}
 use Rattle.heap_cycle.specs.declared.parts.Parts.{Parts}
 use Rattle.heap_cycle.specs.declared.shared.Shared.{Shared}
@@ -44,7 +44,7 @@ use Rattle.heap_engine.proofs.heap_core.Core.act.Goals as goal
 -- what a step that is done found, between the parts
 pub record FindsAll (old new : Parts) : Type 0 where
   pub alone :
-      old.objects.grey.markers ≡ 0 → HasNoRefusedPush (told_of new.objects)
+      old.objects.grey.markers ≡ 0 → HasNoRefusedPush (refusals_told_of new.objects)
       → IsWithin (kept_of (holds new.objects.seat.marked) new.objects.nodes) (kept_of (holds new.objects.seat.traced) new.objects.nodes)
   pub beside : 0 < old.objects.grey.markers → IsIdleOrLong old.objects.grey new.objects.grey
 
@@ -142,12 +142,12 @@ module _
 
   -- they tell of refusals what the command's line tells
   pub walks :
-      IsWalkToldIn c.self.inside.parts.cycle.phase (told_of c.self.inside.parts.objects) (told_of c.run.new.parts.objects)
+      IsWalkToldIn c.self.inside.parts.cycle.phase (refusals_told_of c.self.inside.parts.objects) (refusals_told_of c.run.new.parts.objects)
       (outcome_lines c.run.new.outcome c.count_command.new.self.ran)
   walks =
       let phase : Phase = c.self.inside.parts.cycle.phase in
-      let before : RefusalsTold = told_of c.self.inside.parts.objects in
-      let after : RefusalsTold = told_of c.run.new.parts.objects in
+      let before : RefusalsTold = refusals_told_of c.self.inside.parts.objects in
+      let after : RefusalsTold = refusals_told_of c.run.new.parts.objects in
       subst (IsWalkToldIn phase before after) lines
       (walk_in_lines phase before after c.run.new.outcome c.run.new.parts.cycle.ran (last_line c.run.new.outcome) is.frame.refused)
 
