@@ -15,7 +15,7 @@ use Rattle.mark_worklist.specs.Shares.{ShareState, IsSameShare}
 use Rattle.marker_crew.specs.declared.crew.CrewResult.{CrewResult}
 use Rattle.marker_crew.specs.Crews.{CrewState, Ending, HasJoined, Marker, begun_with, started_with}
 use Rattle.marker_crew.specs.Joined.{begun_many, begun_shares, same_shares}
-use Rattle.marking_trials.specs.SmallHeap.{IsMarking}
+use Rattle.marking_trials.specs.SmallHeap.{IsMarkingSmallHeap}
 use Rattle.marking_trials.specs.Seats.{AreSharesOf, AreSameShares, IsNewSeat, new_crew}
 
 pub one_more : (n : ℕ) (v w : SeatView) (m : MarkerSeatView) (xs : List MarkerSeatView) → xs ≡ replicate n (new_marker v) → m ≡ new_marker w → w.heap ≡ v.heap
@@ -70,7 +70,7 @@ all_back n list shares back of same = all-shares n of.first shares list back of.
 -- ---- marking goes on
 
 pub still_marking : (space : SpaceView) (types : List ObjectType) (v w : SeatView) → w.heap ≡ v.heap → w.types ≡ v.types → w.on ≡ true → w.bodies ≡ v.bodies
-    → IsMarking space types v → IsMarking space types w
+    → IsMarkingSmallHeap space types v → IsMarkingSmallHeap space types w
 still_marking space types v w heap same on bodies is = record {
   heap = heap ∙ is.heap;
   known = is.known ∙ sym same;
@@ -78,13 +78,13 @@ still_marking space types v w heap same on bodies is = record {
   other = subst (λ bs. IsPlace bs 256) (sym bodies) is.other;
 }
 
-pub lent_marking : (space : SpaceView) (types : List ObjectType) (v w : SeatView) → w ≡ lent_from v → IsMarking space types v → IsMarking space types w
+pub lent_marking : (space : SpaceView) (types : List ObjectType) (v w : SeatView) → w ≡ lent_from v → IsMarkingSmallHeap space types v → IsMarkingSmallHeap space types w
 lent_marking space types v w lent is =
     still_marking space types v w (ap (λ (x : SeatView). x.heap) lent) (ap (λ (x : SeatView). x.types) lent) (ap (λ (x : SeatView). x.on) lent ∙ is.on)
     (ap (λ (x : SeatView). x.bodies) lent) is
 
-pub joined_marking : (space : SpaceView) (types : List ObjectType) (v w : SeatView) (m : MarkerSeatView) → w ≡ joined_with v m → IsMarking space types v
-    → IsMarking space types w
+pub joined_marking : (space : SpaceView) (types : List ObjectType) (v w : SeatView) (m : MarkerSeatView) → w ≡ joined_with v m → IsMarkingSmallHeap space types v
+    → IsMarkingSmallHeap space types w
 joined_marking space types v w m joined is =
     still_marking space types v w (ap (λ (x : SeatView). x.heap) joined) (ap (λ (x : SeatView). x.types) joined) (ap (λ (x : SeatView). x.on) joined ∙ is.on)
     (ap (λ (x : SeatView). x.bodies) joined) is

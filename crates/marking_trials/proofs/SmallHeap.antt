@@ -12,7 +12,7 @@ use Rattle.pair_notes.specs.BodyGraph.{HasType, BodyHasPair}
 use Rattle.pair_notes.specs.declared.notes.Note.{Note}
 use Rattle.gc_graph.specs.declared.kind.Kind.TheVariants.{Pair}
 use Rattle.type_table.specs.Types.{declared_kinds, offsets_of_kind}
-use Rattle.marking_trials.specs.SmallHeap.{pair_then_strong, two_bodies, IsSmall, IsTraced, IsEitherPlace, IsEitherPair}
+use Rattle.marking_trials.specs.SmallHeap.{pair_then_strong, two_bodies, IsSmallHeap, IsSmallHeapTraced, IsEitherPlace, IsEitherPair}
 use Rattle.pair_notes.specs.InHand.{Claims}
 use Rattle.pair_notes.specs.Notes.{NotesState, IsNotedIn, group_at}
 use Rattle.ephemerons.specs.Fixpoint.{ListsMarks}
@@ -51,7 +51,7 @@ key_first (suc zero) b ty key = absurd (let e : ValueWord ≡ KeyWord = subst (�
 key_first (suc (suc zero)) b ty key = absurd (let e : StrongWord ≡ KeyWord = subst (λ t. role_in (kind_lists pair_then_strong) (record b { ty = t }) 2 ≡ KeyWord) ty key in cc)
 key_first (suc (suc (suc i))) b ty key = absurd (let e : PlainWord ≡ KeyWord = subst (λ t. role_in (kind_lists pair_then_strong) (record b { ty = t }) (suc (suc (suc i))) ≡ KeyWord) ty key in cc)
 
-pub pairs_whole : (v : SeatView) (k w s : ℕ) → IsSmall v k w s → (k ≡ 0) ↔ (w ≡ 0) → PairsAreWhole v
+pub pairs_whole : (v : SeatView) (k w s : ℕ) → IsSmallHeap v k w s → (k ≡ 0) ↔ (w ≡ 0) → PairsAreWhole v
 pairs_whole v k w s small both b i there role =
     let here : Contains (two_bodies k w s) b = subst (λ bs. Contains bs b) small.bodies there in
     let known : role_in (kind_lists pair_then_strong) b i ≡ KeyWord = subst (λ ts. role_in (kind_lists ts) b i ≡ KeyWord) small.known role in
@@ -68,7 +68,7 @@ pairs_whole v k w s small both b i there role =
 
 -- two objects with null fields were made
 pub small_made : (u v w : SeatView) (heap : Heap) → u ≡ empty_view heap pair_then_strong → Occupies u v (new_body 0 0 5 1) → Occupies v w (new_body 256 0 5 2)
-    → IsSmall w 0 0 0
+    → IsSmallHeap w 0 0 0
 small_made u v w heap is one two = record {
   known = two.types ∙ one.types ∙ ap (λ (x : SeatView). x.types) is;
   quiet = record {
@@ -110,9 +110,9 @@ either_pair k w s note is =
     (at.0, at.1, at.2, subst (λ t. Contains (offsets_of_kind Pair (declared_kinds pair_then_strong t)) note.word) (sym ty) among)
 
 -- marking began, and the first object was marked, claimed and traced
-pub small_traced : (u v w x y : SeatView) (was : Bool) (k n s ty : ℕ) (before after : Marking) → IsSmall u k n s → u.lent ≡ 0 → v ≡ begun u (0 ∷ 256 ∷ [])
+pub small_traced : (u v w x y : SeatView) (was : Bool) (k n s ty : ℕ) (before after : Marking) → IsSmallHeap u k n s → u.lent ≡ 0 → v ≡ begun u (0 ∷ 256 ∷ [])
     → w ≡ marked_at v 0 was → Claims w x 0 ty → ListsMarks x before y after → y.hand ≡ None → holds v.may 0 ≡ true → holds v.may 256 ≡ true
-    → IsTraced y k n s
+    → IsSmallHeapTraced y k n s
 small_traced u v w x y was k n s ty before after small lent began marked claims lists hand holder other =
     let may : y.may ≡ v.may =
     ap (λ (z : SeatView). z.may) lists.view ∙ ap (λ (z : SeatView). z.may) claims.marks ∙ ap (λ (z : SeatView). z.may) marked in
@@ -141,13 +141,13 @@ noted_alone s note noted =
 
 -- ---- a pair that was noted is overwritten
 
-pub null_written : (u v w : SeatView) → IsTraced u 257 1 0 → v ≡ stored u 3 0 → w ≡ stored v 2 0 → w.bodies ≡ two_bodies 0 0 0
+pub null_written : (u v w : SeatView) → IsSmallHeapTraced u 257 1 0 → v ≡ stored u 3 0 → w ≡ stored v 2 0 → w.bodies ≡ two_bodies 0 0 0
 null_written u v w traced value key =
     ap (λ (z : SeatView). z.bodies) key
     ∙ ap (λ (bs : List Body). map (with_word 2 0) bs)
     (ap (λ (z : SeatView). z.bodies) value ∙ ap (λ (bs : List Body). map (with_word 3 0) bs) traced.bodies)
 
-pub other_written : (u v w : SeatView) (was : Bool) → IsTraced u 257 1 0 → v ≡ stored u 3 257 → w ≡ marked_at v 256 was → w.bodies ≡ two_bodies 257 257 0
+pub other_written : (u v w : SeatView) (was : Bool) → IsSmallHeapTraced u 257 1 0 → v ≡ stored u 3 257 → w ≡ marked_at v 256 was → w.bodies ≡ two_bodies 257 257 0
 other_written u v w was traced value marked =
     ap (λ (z : SeatView). z.bodies) marked ∙ ap (λ (z : SeatView). z.bodies) value ∙ ap (λ (bs : List Body). map (with_word 3 257) bs) traced.bodies
 

@@ -15,13 +15,13 @@ use Rattle.page_words.specs.Seat.{SeatView, marked_at}
 use Rattle.page_space.specs.Space.{SpaceView}
 use Rattle.member_fields.specs.Words.{HasFieldWord, HasPair, with_word_in, written}
 use Rattle.member_fields.specs.Barrier.{IsReadyToStore, MayKeepNamed, HasBarrier, asks_for_mark}
-use Rattle.marking_trials.specs.ThreeObjects.{AreThree, IsUnderWay, strong_then_pair}
+use Rattle.marking_trials.specs.ThreeObjects.{AreThree, IsMarkingThreeObjects, strong_then_pair}
 
-kinds_told : (space : SpaceView) (v : SeatView) (told : Bool) → IsUnderWay space v told → (b : Body) → Contains v.bodies b
+kinds_told : (space : SpaceView) (v : SeatView) (told : Bool) → IsMarkingThreeObjects space v told → (b : Body) → Contains v.bodies b
     → declared_kinds v.types b.ty ≡ Strong ∷ Pair ∷ []
 kinds_told space v told is b there = ap (λ (types : List ObjectType). declared_kinds types b.ty) is.types ∙ ap (declared_kinds strong_then_pair) (is.bodies b there).0
 
-pub strong_field : (space : SpaceView) (v : SeatView) (told : Bool) (holder : ℕ) → IsUnderWay space v told → IsPlace v.bodies holder
+pub strong_field : (space : SpaceView) (v : SeatView) (told : Bool) (holder : ℕ) → IsMarkingThreeObjects space v told → IsPlace v.bodies holder
     → HasFieldWord (is_kind Strong) v holder 2
 strong_field space v told holder is at =
     let five = is.bodies at.0 at.1 in
@@ -35,7 +35,7 @@ strong_field space v told holder is at =
           ∙ ap (λ ty. is_kind Strong (kind_in strong_then_pair (record at.0 { ty = ty }) 0)) five.0;
     }
 
-pub pair_field : (space : SpaceView) (v : SeatView) (told : Bool) (holder : ℕ) → IsUnderWay space v told → IsPlace v.bodies holder → HasPair v holder 3
+pub pair_field : (space : SpaceView) (v : SeatView) (told : Bool) (holder : ℕ) → IsMarkingThreeObjects space v told → IsPlace v.bodies holder → HasPair v holder 3
 pair_field space v told holder is at =
     let five = is.bodies at.0 at.1 in
     record {
@@ -47,7 +47,7 @@ pair_field space v told holder is at =
       key = subst (λ (kinds : List Kind). Contains (offsets_of_kind Pair kinds) 3) (sym (kinds_told space v told is at.0 at.1)) (0, omega arith, refl);
     }
 
-pub named_kept : (space : SpaceView) (v : SeatView) (told : Bool) (w : ℕ) → IsUnderWay space v told → IsReference v.bodies w → MayKeepNamed v w
+pub named_kept : (space : SpaceView) (v : SeatView) (told : Bool) (w : ℕ) → IsMarkingThreeObjects space v told → IsReference v.bodies w → MayKeepNamed v w
 named_kept space v told w is names on = elim names [
   | inl null ↦ inl null
   | inr at ↦ (let place : at.0.place ≡ w - 1 = omega (arith, at.2) in
@@ -60,7 +60,7 @@ by_place : (P : Body → Type 0) (holder word w : ℕ) (b : Body) → P (record 
 by_place P holder word w b on off =
     cond_both (eqb b.place holder) (record b { fields = set b.fields (word - 2) w }) b P (λ _. on) (λ _. off)
 
-pub written_goes : (space : SpaceView) (v : SeatView) (told : Bool) (holder word w : ℕ) → IsUnderWay space v told → IsUnderWay space (written v holder word w) told
+pub written_goes : (space : SpaceView) (v : SeatView) (told : Bool) (holder word w : ℕ) → IsMarkingThreeObjects space v told → IsMarkingThreeObjects space (written v holder word w) told
 written_goes space v told holder word w is = record {
   heap = is.heap;
   on = is.on;
@@ -81,8 +81,8 @@ written_places v holder word w p at = (
   by_place (λ d. d.place ≡ p) holder word w at.0 at.2 at.2,
 )
 
-marked_goes : (space : SpaceView) (v : SeatView) (told : Bool) (a : ℕ) (was wanted : Bool) → IsUnderWay space v told
-    → IsReadyToStore (cond wanted (marked_at v a was) v) → IsUnderWay space (cond wanted (marked_at v a was) v) told
+marked_goes : (space : SpaceView) (v : SeatView) (told : Bool) (a : ℕ) (was wanted : Bool) → IsMarkingThreeObjects space v told
+    → IsReadyToStore (cond wanted (marked_at v a was) v) → IsMarkingThreeObjects space (cond wanted (marked_at v a was) v) told
 marked_goes space v told a was false is ready = is
 marked_goes space v told a was true is ready =
     record { heap = is.heap; on = is.on; same = is.same; ready = ready; types = is.types; bodies = is.bodies }
@@ -93,18 +93,18 @@ still_told w v m s n h = elim (cases_Bool h.fresh) [
   | inr stale ↦ ap (λ (k : Marking). k.on) (h.unlisted stale)
 ]
 
-pub barrier_goes : (space : SpaceView) (w : ℕ) (v : SeatView) (m : Marking) (s : SeatView) (n : Marking) → IsUnderWay space v m.on → IsReadyToStore s
-    → HasBarrier w v m s n → IsUnderWay space s n.on
+pub barrier_goes : (space : SpaceView) (w : ℕ) (v : SeatView) (m : Marking) (s : SeatView) (n : Marking) → IsMarkingThreeObjects space v m.on → IsReadyToStore s
+    → HasBarrier w v m s n → IsMarkingThreeObjects space s n.on
 barrier_goes space w v m s n is ready h =
-    subst (λ told. IsUnderWay space s told) (sym (still_told w v m s n h))
-    (subst (λ (u : SeatView). IsUnderWay space u m.on) (sym h.marked)
+    subst (λ told. IsMarkingThreeObjects space s told) (sym (still_told w v m s n h))
+    (subst (λ (u : SeatView). IsMarkingThreeObjects space u m.on) (sym h.marked)
     (marked_goes space v m.on (w - 1) _ (asks_for_mark v w) is (subst IsReadyToStore h.marked ready)))
 
 pub reference_is : (v : SeatView) (p w : ℕ) → IsPlace v.bodies p → w ≡ reference_to p → IsReference v.bodies w
 reference_is v p w at e = inr (at.0, at.1, e ∙ ap reference_to (sym at.2))
 
 -- objects stand where they stood
-pub three_go : (space : SpaceView) (v s : SeatView) (told now : Bool) (a b c : ℕ) → AreThree space v told a b c → IsUnderWay space s now
+pub three_go : (space : SpaceView) (v s : SeatView) (told now : Bool) (a b c : ℕ) → AreThree space v told a b c → IsMarkingThreeObjects space s now
     → ((p : ℕ) → IsPlace v.bodies p → IsPlace s.bodies p) → AreThree space s now a b c
 three_go space v s told now a b c three goes places =
     record { goes = goes; first = places a three.first; second = places b three.second; third = places c three.third }

@@ -7,7 +7,7 @@ use Rattle.marker_core.specs.Bodies.{IsPlace, holds, places}
 use Rattle.page_words.specs.Seat.{SeatView, IsView, PairsAreWhole, begun}
 use Rattle.page_space.specs.Space.{SpaceView, IsSpaceOf}
 use Rattle.page_space.specs.Occupying.{Occupies, new_body}
-use Rattle.marking_trials.specs.ThreeObjects.{IsYoung, IsUnderWay}
+use Rattle.marking_trials.specs.ThreeObjects.{IsYoung, IsMarkingThreeObjects}
 
 -- an object with the next number was made
 pub young_made : (space now : SpaceView) (v w : SeatView) (a number : ℕ) → IsYoung space v number → Occupies v w (new_body a 0 5 number) → IsSpaceOf now w
@@ -51,7 +51,7 @@ all_held v p at =
     subst (λ q. holds (places v.bodies) q ≡ true) at.2 (holds_from (places v.bodies) at.0.place (Contains-map (λ (b : Body). b.place) v.bodies at.0 at.1))
 
 pub under_way : (space : SpaceView) (v s : SeatView) (number : ℕ) (roots : List ℕ) → IsView v → IsYoung space v number → s ≡ begun v roots
-    → ((p : ℕ) → IsPlace v.bodies p → holds s.may p ≡ true) → IsUnderWay space s true
+    → ((p : ℕ) → IsPlace v.bodies p → holds s.may p ≡ true) → IsMarkingThreeObjects space s true
 under_way space v s number roots is young e may =
     let rest = is.at_rest young.quiet.off in
     record {

@@ -30,7 +30,7 @@ abbrev pub IsEither : ℕ → Type 0
 IsEither w = (w ≡ 0) ⊎ ((w ≡ 1) ⊎ (w ≡ 257))
 
 -- nothing is marked yet, and these are the words of the two objects
-pub record IsSmall (v : SeatView) (key value strong : ℕ) : Type 0 where
+pub record IsSmallHeap (v : SeatView) (key value strong : ℕ) : Type 0 where
   pub known : v.types ≡ pair_then_strong
   pub quiet : IsQuiet v
   pub bodies : v.bodies ≡ two_bodies key value strong
@@ -45,7 +45,7 @@ pub record IsEitherPair (note : Note) : Type 0 where
   pub word : note.word ≡ 2
 
 -- marking goes on and nothing is in hand or waits for its mark; both objects may be kept, and the first one has these words
-pub record IsTraced (v : SeatView) (key value strong : ℕ) : Type 0 where
+pub record IsSmallHeapTraced (v : SeatView) (key value strong : ℕ) : Type 0 where
   pub known : v.types ≡ pair_then_strong
   pub on : v.on ≡ true
   pub alone : IsAlone v
@@ -54,7 +54,7 @@ pub record IsTraced (v : SeatView) (key value strong : ℕ) : Type 0 where
   pub other : holds v.may 256 ≡ true
 
 -- marking goes on over the words of the space, and the second object is there
-pub record IsMarking (space : SpaceView) (types : List ObjectType) (v : SeatView) : Type 0 where
+pub record IsMarkingSmallHeap (space : SpaceView) (types : List ObjectType) (v : SeatView) : Type 0 where
   pub heap : IsSeatOf space v
   pub known : types ≡ v.types
   pub on : v.on ≡ true

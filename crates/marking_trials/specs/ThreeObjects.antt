@@ -22,7 +22,7 @@ pub record IsYoung (space : SpaceView) (v : SeatView) (number : ℕ) : Type 0 wh
   pub fresh : (b : Body) → Contains v.bodies b → (b ≡ new_body b.place 0 5 b.serial) × (b.serial < number)
 
 -- marking goes on, for the marking state too, and each object has five words and may be kept
-pub record IsUnderWay (space : SpaceView) (v : SeatView) (told : Bool) : Type 0 where
+pub record IsMarkingThreeObjects (space : SpaceView) (v : SeatView) (told : Bool) : Type 0 where
   pub heap : IsSeatOf space v
   pub on : v.on ≡ true
   pub same : told ≡ true
@@ -39,7 +39,7 @@ pub record AreYoung (space : SpaceView) (v : SeatView) (a b c : ℕ) : Type 0 wh
 
 -- objects stand at these places, and marking goes on
 pub record AreThree (space : SpaceView) (v : SeatView) (told : Bool) (a b c : ℕ) : Type 0 where
-  pub goes : IsUnderWay space v told
+  pub goes : IsMarkingThreeObjects space v told
   pub first : IsPlace v.bodies a
   pub second : IsPlace v.bodies b
   pub third : IsPlace v.bodies c

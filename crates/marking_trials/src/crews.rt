@@ -5,7 +5,7 @@ ghost use Rattle.std.specs.Arc.{arc_value};
 ghost use Rattle.marker_core.specs.Bodies.{IsPlace};
 ghost use Rattle.page_words.specs.Markers.{new_marker};
 ghost use Rattle.page_space.specs.Space.{IsSeatOf, heap_of};
-ghost use Rattle.marking_trials.specs.SmallHeap.{IsMarking};
+ghost use Rattle.marking_trials.specs.SmallHeap.{IsMarkingSmallHeap};
 ghost use Rattle.marking_trials.specs.Seats.{AreSharesOf, AreSameShares, new_crew};
 
 use crate::draining::{Lists, marked, two_lists};
@@ -76,7 +76,7 @@ fn run<R: Threads>(
     shares: Vec<Share>,
     markers: u32,
 ) -> Option<CrewResult>
-    requires marking { IsMarking heap.old.space (arc_value heap.old.types) heap.old.seat }
+    requires marking { IsMarkingSmallHeap heap.old.space (arc_value heap.old.types) heap.old.seat }
     requires crew { crew.old ≡ new_crew markers }
     requires shares { length shares.items ≡ markers }
     ensures heap { IfSome result (λ told. IsSeatOf heap.new.space heap.new.seat) }
@@ -143,8 +143,8 @@ fn crew_without_markers_leaves_all(rt: HostRuntime) {
 
 /// What a step of so many objects tells.
 fn step_once(heap: &mut SmallHeap, share: &mut Share, notes: &mut Pairs, most: u32) -> Drained
-    requires { IsMarking heap.old.space (arc_value heap.old.types) heap.old.seat }
-    ensures { IsMarking heap.new.space (arc_value heap.new.types) heap.new.seat }
+    requires { IsMarkingSmallHeap heap.old.space (arc_value heap.old.types) heap.old.seat }
+    ensures { IsMarkingSmallHeap heap.new.space (arc_value heap.new.types) heap.new.seat }
 {
     step_beside(
         heap.space.words(),
@@ -256,11 +256,11 @@ fn start<R: Threads>(
     held: &mut HeldCrew,
     shares: Vec<Share>,
 ) -> Option<()>
-    requires marking { IsMarking heap.old.space (arc_value heap.old.types) heap.old.seat }
+    requires marking { IsMarkingSmallHeap heap.old.space (arc_value heap.old.types) heap.old.seat }
     requires crew { held.old.crew ≡ new_crew 1 }
     requires shares { length shares.items ≡ 1 }
     ensures marking { IfSome result (λ done.
-        IsMarking heap.new.space (arc_value heap.new.types) heap.new.seat) }
+        IsMarkingSmallHeap heap.new.space (arc_value heap.new.types) heap.new.seat) }
     ensures seats { IfSome result (λ done.
         All (λ m. m.seat.heap ≡ heap_of heap.new.space) held.new.crew.running) }
 {
@@ -283,7 +283,7 @@ fn step_and_join<R: Threads>(
     held: &mut HeldCrew,
     own: &mut Share,
 ) -> (u32, u32)
-    requires marking { IsMarking heap.old.space (arc_value heap.old.types) heap.old.seat }
+    requires marking { IsMarkingSmallHeap heap.old.space (arc_value heap.old.types) heap.old.seat }
     requires seats { All (λ m. m.seat.heap ≡ heap_of heap.old.space) held.old.crew.running }
 {
     await_one(&held.gate.came);

@@ -2,7 +2,7 @@
 
 ghost use Rattle.std.specs.Prelude.{◌≡◌, ◌↔◌, None, IfSome};
 ghost use Rattle.std.specs.Arc.{arc_value};
-ghost use Rattle.marking_trials.specs.SmallHeap.{IsEither, IsMarking};
+ghost use Rattle.marking_trials.specs.SmallHeap.{IsEither, IsMarkingSmallHeap};
 ghost use Rattle.marking_trials.specs.Seats.{IsNewSeat};
 
 use crate::small_heap::{HOLDER, SmallHeap, is_other_marked, made, write};
@@ -24,7 +24,8 @@ pub fn marked(alloc: Global, key: u64, value: u64, strong: u64) -> Option<SmallH
     requires value { IsEither value }
     requires strong { IsEither strong }
     requires pair { (key ≡ 0) ↔ (value ≡ 0) }
-    ensures { IfSome result (λ heap. IsMarking heap.space (arc_value heap.types) heap.seat) }
+    ensures { IfSome result (λ heap. IsMarkingSmallHeap heap.space
+        (arc_value heap.types) heap.seat) }
 {
     let mut heap = made(alloc)?;
     write(&heap.space, &mut heap.seat, key, value, strong);
@@ -51,8 +52,8 @@ pub fn two_lists(alloc: Global) -> Option<Lists> {
 
 /// What a drain with a new seat tells.
 fn drained_once(heap: &mut SmallHeap, share: &mut Share, notes: &mut Pairs) -> Drained
-    requires { IsMarking heap.old.space (arc_value heap.old.types) heap.old.seat }
-    ensures { IsMarking heap.new.space (arc_value heap.new.types) heap.new.seat }
+    requires { IsMarkingSmallHeap heap.old.space (arc_value heap.old.types) heap.old.seat }
+    ensures { IsMarkingSmallHeap heap.new.space (arc_value heap.new.types) heap.new.seat }
 {
     let mut marker = heap.space.words().split(&mut heap.seat);
     let told = drain(
@@ -159,8 +160,8 @@ struct TwoMarkers {
 
 /// Lends three seats, two of them with the shares.
 fn two_markers(heap: &mut SmallHeap, lists: ThreeLists) -> TwoMarkers
-    requires { IsMarking heap.old.space (arc_value heap.old.types) heap.old.seat }
-    ensures marking { IsMarking heap.new.space (arc_value heap.new.types) heap.new.seat }
+    requires { IsMarkingSmallHeap heap.old.space (arc_value heap.old.types) heap.old.seat }
+    ensures marking { IsMarkingSmallHeap heap.new.space (arc_value heap.new.types) heap.new.seat }
     ensures one { IsNewSeat heap.new.seat result.one.seat }
     ensures other { IsNewSeat heap.new.seat result.other.seat }
     ensures idle { IsNewSeat heap.new.seat result.idle }

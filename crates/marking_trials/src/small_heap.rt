@@ -6,7 +6,7 @@ ghost use Rattle.marker_core.specs.Bodies.{IsPlace};
 ghost use Rattle.page_words.specs.Seat.{empty_view};
 ghost use Rattle.page_space.specs.Space.{IsSeatOf, IsSpaceOf, heap_of};
 ghost use Rattle.page_space.specs.Occupying.{IsNewNumber, Occupies, new_body};
-ghost use Rattle.marking_trials.specs.SmallHeap.{pair_then_strong, two_fields, IsEither, IsSmall};
+ghost use Rattle.marking_trials.specs.SmallHeap.{pair_then_strong, two_fields, IsEither, IsSmallHeap};
 
 use gc_graph::{Kind, NoMemory};
 use page_space::Space;
@@ -94,7 +94,7 @@ fn put(space: &mut Space, seat: &mut MutatorSeat, place: u32, serial: u32) -> bo
 pub fn made(alloc: Global) -> Option<SmallHeap>
     ensures space { IfSome result (λ heap. IsSeatOf heap.space heap.seat) }
     ensures types { IfSome result (λ heap. arc_value heap.types ≡ pair_then_strong) }
-    ensures small { IfSome result (λ heap. IsSmall heap.seat 0 0 0) }
+    ensures small { IfSome result (λ heap. IsSmallHeap heap.seat 0 0 0) }
 {
     let mut heap = empty(alloc)?;
     if !put(&mut heap.space, &mut heap.seat, HOLDER, 1) {
@@ -109,13 +109,13 @@ pub fn made(alloc: Global) -> Option<SmallHeap>
 /// Writes the fields of the first object: the value goes in before its key.
 pub fn write(space: &Space, seat: &mut MutatorSeat, key: u64, value: u64, strong: u64)
     requires heap { IsSeatOf space.now seat.old }
-    requires small { IsSmall seat.old 0 0 0 }
+    requires small { IsSmallHeap seat.old 0 0 0 }
     requires key { IsEither key }
     requires value { IsEither value }
     requires strong { IsEither strong }
     requires pair { (key ≡ 0) ↔ (value ≡ 0) }
     ensures heap { seat.new.heap ≡ seat.old.heap }
-    ensures small { IsSmall seat.new key value strong }
+    ensures small { IsSmallHeap seat.new key value strong }
 {
     seat.bodies_lie_apart();
     space.store(seat, HOLDER + 3, value);

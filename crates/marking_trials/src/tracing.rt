@@ -9,8 +9,8 @@ ghost use Rattle.page_space.specs.Space.{IsSeatOf};
 ghost use Rattle.pair_notes.specs.BodyGraph.{BodyHasPair};
 ghost use Rattle.pair_notes.specs.Notes.{no_notes};
 ghost use Rattle.pair_notes.specs.declared.notes.Note.{Note};
-ghost use Rattle.marking_trials.specs.SmallHeap.{pair_then_strong, IsEither, IsSmall};
-ghost use Rattle.marking_trials.specs.SmallHeap.{IsTraced, AreOfTheTwo};
+ghost use Rattle.marking_trials.specs.SmallHeap.{pair_then_strong, IsEither, IsSmallHeap};
+ghost use Rattle.marking_trials.specs.SmallHeap.{IsSmallHeapTraced, AreOfTheTwo};
 
 use crate::small_heap::{HOLDER, OTHER, SmallHeap, is_other_marked, made, write};
 use ephemerons::{claim, fixpoint, trace};
@@ -39,7 +39,7 @@ struct Trial {
 fn begun(alloc: Global) -> Option<Trial>
     ensures heap { IfSome result (λ t. IsSeatOf t.heap.space t.heap.seat) }
     ensures types { IfSome result (λ t. arc_value t.heap.types ≡ pair_then_strong) }
-    ensures small { IfSome result (λ t. IsSmall t.heap.seat 0 0 0) }
+    ensures small { IfSome result (λ t. IsSmallHeap t.heap.seat 0 0 0) }
     ensures told { IfSome result (λ t. t.marking.on ≡ true) }
     ensures list { IfSome result (λ t. t.marking.list ≡ no_items) }
     ensures notes { IfSome result (λ t. t.notes ≡ no_notes) }
@@ -71,7 +71,7 @@ fn trace_first(
 ) -> Option<()>
     requires heap { IsSeatOf heap.old.space heap.old.seat }
     requires types { arc_value heap.old.types ≡ pair_then_strong }
-    requires small { IsSmall heap.old.seat 0 0 0 }
+    requires small { IsSmallHeap heap.old.seat 0 0 0 }
     requires told { marking.old.on ≡ true }
     requires list { marking.old.list ≡ no_items }
     requires notes { notes.old ≡ no_notes }
@@ -81,7 +81,7 @@ fn trace_first(
     requires pair { (key ≡ 0) ↔ (value ≡ 0) }
     ensures heap { IfSome result (λ done. IsSeatOf heap.new.space heap.new.seat) }
     ensures types { arc_value heap.new.types ≡ pair_then_strong }
-    ensures traced { IfSome result (λ done. IsTraced heap.new.seat key value strong) }
+    ensures traced { IfSome result (λ done. IsSmallHeapTraced heap.new.seat key value strong) }
     ensures lists { IfSome result (λ done. AreOfTheTwo marking.new notes.new) }
 {
     write(&heap.space, &mut heap.seat, key, value, strong);
@@ -108,7 +108,7 @@ fn traced(alloc: Global, key: u64, value: u64, strong: u64) -> Option<Trial>
     requires pair { (key ≡ 0) ↔ (value ≡ 0) }
     ensures heap { IfSome result (λ t. IsSeatOf t.heap.space t.heap.seat) }
     ensures types { IfSome result (λ t. arc_value t.heap.types ≡ pair_then_strong) }
-    ensures traced { IfSome result (λ t. IsTraced t.heap.seat key value strong) }
+    ensures traced { IfSome result (λ t. IsSmallHeapTraced t.heap.seat key value strong) }
     ensures lists { IfSome result (λ t. AreOfTheTwo t.marking t.notes) }
 {
     let mut t = begun(alloc)?;
