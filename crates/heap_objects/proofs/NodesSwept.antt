@@ -8,10 +8,10 @@ use Rattle.gc_graph.specs.State.{Node, Life, node_at, is_there, is_dead, IsDead}
 use Rattle.gc_graph.specs.State.Life.{Live, Dead, Gone}
 use Rattle.gc_graph.specs.Sweep.{buried, finalise, IsDeadBelow, AreDeadInOrder}
 use Rattle.marker_core.specs.declared.states.Body.{Body}
-use Rattle.marker_core.specs.Bodies.{holds}
+use Rattle.marker_core.specs.Bodies.{holds, no_body}
 use Rattle.page_words.specs.Seat.{SeatView}
 use Rattle.page_space.specs.Pages.{is_between}
-use Rattle.sweeper.specs.Sweeping.{IsClearBelow, Sweeps, AreDeadSerials, IsDeadBetween, no_body, outside, is_dead_in}
+use Rattle.sweeper.specs.Sweeping.{IsClearBelow, Sweeps, AreDeadSerials, IsDeadBetween, outside, is_dead_in}
 use Rattle.atomic_pause.specs.Nodes.{place_of, body_of, bodies_from, IsThere, IsHeld}
 use Rattle.atomic_pause.specs.NodeBodies.{bodies-there, bodies-gone}
 use Rattle.atomic_pause.specs.NodeChanges.{bodies-same}

@@ -76,6 +76,10 @@ field_number a b = a - (b.place + first_field)
 abbrev pub with_word : ℕ → ℕ → Body → Body
 with_word a w b = record b { fields = if has_field a b then slice_set b.fields (field_number a b) w else b.fields }
 
+-- what stands where there is no body
+abbrev pub no_body : Body
+no_body = record { place = 0; ty = 0; size = 0; serial = 0; fields = [] }
+
 -- the places of the bodies
 abbrev pub places : List Body → List ℕ
 places bodies = map (λ b. b.place) bodies

@@ -7,6 +7,7 @@ use Rattle.gc_graph.specs.State.{Node, Life, node_at, is_there, is_live, IsLive}
 use Rattle.gc_graph.specs.State.Life.{Live, Dead, Gone}
 use Rattle.gc_graph.specs.Members.{Contains-cons, Contains-head}
 use Rattle.marker_core.specs.declared.states.Body.{Body}
+use Rattle.marker_core.specs.Bodies.{no_body}
 use Rattle.page_words.specs.Seat.{SeatView, IsView}
 use Rattle.page_words.specs.BodyPlaces.{same_body}
 use Rattle.pair_notes.specs.BodyGraph.{PlacesDiffer}
@@ -75,10 +76,6 @@ pub places_differ : (nodes : List Node) (v : SeatView) → IsView v → v.bodies
 places_differ nodes v view held =
     subst PlacesDiffer (sym held)
     (differ_from (place_of nodes) 0 nodes (subst (λ bs. (b c : Body) → Contains bs b → Contains bs c → b.place ≡ c.place → b ≡ c) held (λ b c. same_body v b c view)))
-
--- what stands past the last body
-abbrev no_body : Body
-no_body = record { place = 0; ty = 0; size = 0; serial = 0; fields = [] }
 
 -- serial numbers are numbers of nodes
 pub serials_fit : (nodes : List Node) (v : SeatView) → v.bodies ≡ bodies_of nodes → length nodes ≤ 1000000 → All (λ (b : Body). b.serial < 2 ^ 32) v.bodies

@@ -5,10 +5,10 @@ use Rattle.std.proofs.lemmas.Bool.{true≢false, cases_lt, and_left}
 use Rattle.std.proofs.lemmas.List.{map-append, length-append, get_or_append_left, get_or-append_right}
 use Rattle.std.proofs.lemmas.List.Elements.{All-append, All-weaker, All-nil, All-cons, All-get_or, Contains-append_left, Contains-append_right}
 use Rattle.marker_core.specs.declared.states.Body.{Body}
-use Rattle.marker_core.specs.Bodies.{holds}
+use Rattle.marker_core.specs.Bodies.{holds, no_body}
 use Rattle.page_space.specs.Seat.{SeatView, OnlyLooked}
 use Rattle.page_space.specs.Space.{HasNoStart}
-use Rattle.sweeper.specs.Sweeping.{swept_in, is_dead_in, IsDeadBetween, AreDeadSerials, no_body}
+use Rattle.sweeper.specs.Sweeping.{swept_in, is_dead_in, IsDeadBetween, AreDeadSerials}
 use Rattle.gc_graph.specs.Members.{Contains-head, was_in, stays_in}
 use Rattle.sweeper.proofs.Places.{behind, outside_behind}
 

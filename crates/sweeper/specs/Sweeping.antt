@@ -2,7 +2,7 @@
 use Rattle.std.specs.Prelude.{◌≡◌, ℕ, ◌+◌, ◌*◌, ◌^◌, ◌<◌, ◌≤◌, ◌&&◌, not, Bool, true, false, List, [], ◌++◌, length, map, filter, count_by, slice_index_or, Contains, All}
 use Rattle.gc_graph.specs.State.{Shape}
 use Rattle.marker_core.specs.declared.states.Body.{Body}
-use Rattle.marker_core.specs.Bodies.{holds}
+use Rattle.marker_core.specs.Bodies.{holds, no_body}
 use Rattle.page_space.specs.Seat.{SeatView, IsUnnamed, OnlyLooked}
 use Rattle.page_space.specs.Pages.{is_between}
 use Rattle.page_space.specs.Space.{SpaceView, IsSpaceOf}
@@ -81,10 +81,6 @@ pub record IsDeadBetween (from until : ℕ) (v : SeatView) (b : Body) : Type 0 w
   pub dead : holds v.dead b.place ≡ true
   pub first : from ≤ b.place
   pub last : b.place < until
-
--- what stands at a position where there is no body
-abbrev pub no_body : Body
-no_body = record { place = 0; ty = 0; size = 0; serial = 0; fields = [] }
 
 -- the numbers are those of the dead bodies there, each once, from the lowest place to the highest
 pub record AreDeadSerials (from until : ℕ) (v : SeatView) (numbers : List ℕ) : Type 0 where
