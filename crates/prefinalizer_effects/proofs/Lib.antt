@@ -1,4 +1,3 @@
-pub mod Looking
 pub mod FieldWords
 pub mod BodiesChanged
 pub mod BodiesKept

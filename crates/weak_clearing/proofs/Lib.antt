@@ -1,5 +1,4 @@
 pub mod Lists
-pub mod Looking
 pub mod HandleWords
 pub mod Words
 pub mod Lessened

@@ -7,7 +7,7 @@ use Rattle.prefinalizer_effects.specs.Acting.{body_added_at}
 use Rattle.member_fields.specs.Words.{written}
 use Rattle.member_fields.specs.Looked.{word_looked, word_from}
 use Rattle.prefinalizer_effects.proofs.BodiesChanged.{FoundAs, plain_added, added_past, other_kept, changed_none}
-use Rattle.prefinalizer_effects.proofs.Looking.{looks_same, looks_on, looks_as}
+use Rattle.page_words.specs.Looking.{looks_same, looks_on, looks_as}
 use Rattle.prefinalizer_effects.proofs.acting.add.Goals as goal
 
 pub get_word-before-requires-clause-field : goal.get_word-before-requires-clause-field

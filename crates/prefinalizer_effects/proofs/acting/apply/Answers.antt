@@ -2,7 +2,7 @@ use Rattle.std.proofs.Common.{ap, sym, ◌∙◌, subst}
 use Rattle.page_words.specs.Seat.{SeatView, OnlyLooked}
 use Rattle.prefinalizer_effects.specs.Acting.{BodiesAreTyped, AreLinked, body_cleared_at, body_added_at, changed_at}
 use Rattle.prefinalizer_effects.proofs.BodiesKept.{clearing_keeps, adding_keeps, typed_kept, links_kept}
-use Rattle.prefinalizer_effects.proofs.Looking.{looks_on}
+use Rattle.page_words.specs.Looking.{looks_on}
 use Rattle.prefinalizer_effects.proofs.acting.apply.Goals as goal
 
 pub clear-requires-clause-typed : goal.clear-requires-clause-typed

@@ -7,7 +7,7 @@ use Rattle.prefinalizer_effects.specs.Acting.{body_cleared_at}
 use Rattle.member_fields.specs.Words.{written, pair_written}
 use Rattle.member_fields.specs.Looked.{word_looked, pair_looked}
 use Rattle.prefinalizer_effects.proofs.BodiesChanged.{FoundAs, plain_kept, cleared_past, changed_none, strong_cleared, weak_cleared, pair_cleared}
-use Rattle.prefinalizer_effects.proofs.Looking.{looks_on, looks_as}
+use Rattle.page_words.specs.Looking.{looks_on, looks_as}
 use Rattle.prefinalizer_effects.proofs.acting.clear.Goals as goal
 
 pub clear-requires-clause-field : goal.clear-requires-clause-field

@@ -1,7 +1,7 @@
 use Rattle.std.proofs.Common.{◌-◌}
 use Rattle.prefinalizer_effects.specs.Places.{IsFound}
 use Rattle.prefinalizer_effects.proofs.FieldWords.{type_told, extra_told, field_told, type_known, size_least, found_words, found_pairs}
-use Rattle.prefinalizer_effects.proofs.Looking.{looks_at}
+use Rattle.page_words.specs.Looking.{looks_at}
 use Rattle.prefinalizer_effects.proofs.fields.field_in.Goals as goal
 
 pub size_of-requires-clause-ty : goal.size_of-requires-clause-ty

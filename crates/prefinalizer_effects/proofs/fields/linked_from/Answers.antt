@@ -5,7 +5,7 @@ use Rattle.type_table.specs.Types.{is_kind}
 use Rattle.marker_core.specs.Bodies.{IsReference}
 use Rattle.member_fields.specs.Looked.{word_looked, word_from}
 use Rattle.prefinalizer_effects.proofs.FieldWords.{link_reference, reference_fits, names_place}
-use Rattle.prefinalizer_effects.proofs.Looking.{looks_same, looks_on}
+use Rattle.page_words.specs.Looking.{looks_same, looks_on}
 use Rattle.prefinalizer_effects.proofs.fields.linked_from.Goals as goal
 
 refers : (c : goal.After-get) → IsReference c.args.seat.now.bodies c.get.result

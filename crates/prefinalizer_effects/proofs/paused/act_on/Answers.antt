@@ -18,7 +18,7 @@ use Rattle.gc_graph.specs.NodeNumbers.{there_below}
 use Rattle.prefinalizer_effects.proofs.PrefinalizerBodies.{held_acted}
 use Rattle.prefinalizer_effects.proofs.PreparedBodies.{bodies_typed, bodies_linked}
 use Rattle.prefinalizer_effects.proofs.StandingNodes.{stands_there, stands_body}
-use Rattle.prefinalizer_effects.proofs.Looking.{looks_same, looks_on}
+use Rattle.page_words.specs.Looking.{looks_same, looks_on}
 use Rattle.prefinalizer_effects.proofs.paused.act_on.Goals as goal
 
 pub serial_at-number-requires-clause-start : goal.serial_at-number-requires-clause-start

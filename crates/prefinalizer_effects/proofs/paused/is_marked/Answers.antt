@@ -6,7 +6,7 @@ use Rattle.page_words.specs.Seat.{SeatView}
 use Rattle.nodes_in_words.specs.Nodes.{place_of, body_of}
 use Rattle.nodes_in_words.specs.NodePlaces.{node_body}
 use Rattle.prefinalizer_effects.proofs.StandingNodes.{stands_there, stands_body, mark_tells}
-use Rattle.prefinalizer_effects.proofs.Looking.{looks_at}
+use Rattle.page_words.specs.Looking.{looks_at}
 use Rattle.prefinalizer_effects.proofs.paused.is_marked.Goals as goal
 
 pub header_at-requires-clause-start : goal.header_at-requires-clause-start

@@ -10,7 +10,7 @@ use Rattle.marker_core.specs.Layout.{stop_at}
 use Rattle.page_words.specs.Seat.{SeatView}
 use Rattle.prefinalizer_effects.specs.Shown.{shown_of_kinds}
 use Rattle.prefinalizer_effects.proofs.FieldWords.{type_known, kinds_told, size_told, long_fields, fields_inside}
-use Rattle.prefinalizer_effects.proofs.Looking.{looks_at, looks_on, looks_read}
+use Rattle.page_words.specs.Looking.{looks_at, looks_on, looks_read}
 use Rattle.prefinalizer_effects.proofs.WordsShown.{shown_length, word_shown, one_more_shown, first_words}
 use Rattle.type_table.specs.KindLaws.{length-kinds_of_words}
 use Rattle.prefinalizer_effects.proofs.shown.shown_words.Goals as goal

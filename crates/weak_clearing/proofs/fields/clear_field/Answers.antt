@@ -6,7 +6,7 @@ use Rattle.member_fields.specs.Words.{written}
 use Rattle.member_fields.specs.Looked.{word_looked}
 use Rattle.weak_clearing.specs.declared.weak_handles.WeakHandles.TheVariants.{Fields}
 use Rattle.weak_clearing.specs.Clearing.{names_unmarked}
-use Rattle.weak_clearing.proofs.Looking.{looks_as, looks_on, looks_from}
+use Rattle.page_words.specs.Looking.{looks_as, looks_on, looks_from}
 use Rattle.weak_clearing.proofs.Words.{field_word, reads_reference, handle_stays, field_nulled}
 use Rattle.weak_clearing.proofs.fields.clear_field.Goals as goal
 

@@ -1,5 +1,5 @@
 use Rattle.std.proofs.Common.{◌∙◌}
-use Rattle.weak_clearing.proofs.Looking.{looks_read}
+use Rattle.page_words.specs.Looking.{looks_read}
 use Rattle.weak_clearing.proofs.marks.is_marked.Goals as goal
 
 pub returns-clause-mark : goal.returns-clause-mark

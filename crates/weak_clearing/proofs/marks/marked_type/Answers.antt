@@ -3,7 +3,7 @@ use Rattle.marker_core.specs.declared.states.Body.{Body}
 use Rattle.page_words.specs.BodyPlaces.{small_type}
 use Rattle.marker_core.specs.Bodies.{holds}
 use Rattle.page_words.specs.Seat.{SeatView}
-use Rattle.weak_clearing.proofs.Looking.{looks_read}
+use Rattle.page_words.specs.Looking.{looks_read}
 use Rattle.weak_clearing.proofs.marks.marked_type.Goals as goal
 
 pub returns-then-has_mark-clause-marked : goal.returns-then-has_mark-clause-marked

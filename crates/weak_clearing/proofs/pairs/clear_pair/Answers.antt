@@ -5,7 +5,7 @@ use Rattle.member_fields.specs.Words.{pair_written}
 use Rattle.member_fields.specs.Looked.{pair_looked}
 use Rattle.weak_clearing.specs.declared.weak_handles.WeakHandles.TheVariants.{Pairs}
 use Rattle.weak_clearing.specs.Clearing.{names_unmarked}
-use Rattle.weak_clearing.proofs.Looking.{looks_as, looks_on, looks_from}
+use Rattle.page_words.specs.Looking.{looks_as, looks_on, looks_from}
 use Rattle.weak_clearing.proofs.Words.{whole_pair, reads_reference, handle_stays, pair_nulled}
 use Rattle.weak_clearing.proofs.pairs.clear_pair.Goals as goal
 

@@ -4,7 +4,7 @@ use Rattle.gc_graph.specs.Pause.{clear_slot}
 use Rattle.marker_core.specs.Bodies.{IsPlace, holds}
 use Rattle.page_words.specs.Seat.{SeatView}
 use Rattle.weak_clearing.proofs.InTurn.{first_many, next_same, next_cleared, all_cleared, place_in_slot}
-use Rattle.weak_clearing.proofs.Looking.{looks_on}
+use Rattle.page_words.specs.Looking.{looks_on}
 use Rattle.weak_clearing.proofs.slots.clear_slots.Goals as goal
 
 abbrev unmarked : SeatView → ℕ → Bool

@@ -10,7 +10,7 @@ use Rattle.weak_clearing.specs.Clearing.{MarkedHaveReferencesOf}
 use Rattle.weak_clearing.specs.Steps.{kind_of_handles, body_cleared}
 use Rattle.weak_clearing.proofs.BlockWalk.{is_passed, still_left, none_left, one_passed, not_next}
 use Rattle.weak_clearing.proofs.ObjectWalk.{where_references, where_place, where_none, where_same, where_after}
-use Rattle.weak_clearing.proofs.Looking.{looks_same, looks_on}
+use Rattle.page_words.specs.Looking.{looks_same, looks_on}
 use Rattle.weak_clearing.proofs.walk.clear_block.Goals as goal
 
 pub loop-left-init : goal.loop-left-init

@@ -8,7 +8,7 @@ use Rattle.page_words.specs.Seat.{Heap, SeatView, unlooked}
 use Rattle.type_table.specs.Types.{declared_kinds, offsets_of_kind}
 use Rattle.weak_clearing.specs.Clearing.{MarkedHaveReferencesOf}
 use Rattle.weak_clearing.specs.Steps.{kind_of_handles, block_cleared}
-use Rattle.weak_clearing.proofs.Looking.{looks_same, looks_on, looks_from}
+use Rattle.page_words.specs.Looking.{looks_same, looks_on, looks_from}
 use Rattle.weak_clearing.proofs.BlockWalk.{below_next, below_apart}
 use Rattle.weak_clearing.proofs.NoHandles.{none_cleared}
 use Rattle.weak_clearing.proofs.ObjectWalk.{where_references, where_none, where_after, where_all}

@@ -6,7 +6,7 @@ use Rattle.page_words.specs.Seat.{SeatView, unlooked}
 use Rattle.weak_clearing.specs.declared.weak_handles.WeakHandles.{WeakHandles}
 use Rattle.weak_clearing.specs.Steps.{HasHandle, kind_of_handles, handle_cleared}
 use Rattle.weak_clearing.proofs.Holder.{holder_handle, handle_stays, handle_looked, listed_none, listed_cleared, one_more_cleared, all_listed}
-use Rattle.weak_clearing.proofs.Looking.{looks_same, looks_on}
+use Rattle.page_words.specs.Looking.{looks_same, looks_on}
 use Rattle.weak_clearing.proofs.walk.clear_holder.Goals as goal
 
 pub loop-word-init : goal.loop-word-init

@@ -1,7 +1,7 @@
 use Rattle.std.proofs.Common.{ap, ◌∙◌}
 use Rattle.page_words.specs.Seat.{unlooked}
 use Rattle.weak_clearing.proofs.ObjectWalk.{unmarked_stays}
-use Rattle.weak_clearing.proofs.Looking.{looks_on}
+use Rattle.page_words.specs.Looking.{looks_on}
 use Rattle.weak_clearing.proofs.walk.clear_object.Goals as goal
 
 pub returns-in_default-clause-cleared : goal.returns-in_default-clause-cleared
