@@ -23,21 +23,6 @@ use Rattle.heap_cycle.specs.declared.parts.Parts.{Parts}
 use Rattle.heap_cycle.specs.Parts.{setup_of, state_of, IsReady}
 use Rattle.heap_cycle.specs.Region.{HasRegion, made}
 
--- ---- which commands
-
--- whether a command leaves the region, its history and the threads as they are: the owner's calls, starts, pauses and what is said
--- to threads don't
-abbrev pub leaves_region : Command → Bool
-leaves_region (C.Export p x) = false
-leaves_region (C.Import x p) = false
-leaves_region C.GcStart = false
-leaves_region (C.GcFinish want) = false
-leaves_region (C.GcNow want) = false
-leaves_region (C.At j order) = false
-leaves_region C.ThreadsGo = false
-leaves_region C.ThreadsJoin = false
-leaves_region _ = true
-
 -- ---- the history
 
 -- no entry was made where the history is the same

@@ -28,9 +28,9 @@ use Rattle.gc_graph.specs.OnceLaw.{NodesStayPut}
 use Rattle.heap_cycle.specs.Parts.{counted, setup_of, state_of, IsReady}
 use Rattle.heap_cycle.specs.Region.{HasRegion, made}
 use Rattle.thread_queues.specs.Queues.{QueuesView}
-use Rattle.heap_engine.specs.CarriedOut.{LeavesShared}
+use Rattle.heap_engine.specs.CarriedOut.{LeavesShared, leaves_region}
 use Rattle.heap_engine.specs.Going.{HasTold, IsReplyLine, MayHaveGone}
-use Rattle.heap_engine.proofs.RegionAlone.{leaves_region, none_made, region_alone}
+use Rattle.heap_engine.proofs.RegionAlone.{none_made, region_alone}
 use Rattle.heap_engine.proofs.ThreadsTold.{all_replies}
 use Rattle.heap_cycle.specs.Shared.{HasAhead, HasShared, HasThreads, HaveAnswered, IsOwners, MayTake, TakesAhead, ahead_of, taken_of}
 use Rattle.heap_cycle.specs.ThreadEntries.{entries_on, owners_by_none, thread_above}

@@ -1,11 +1,11 @@
 -- What a join tells before its last line, and what is told between commands of threads that run.
-use Rattle.std.proofs.Common.{◌≡◌, ℕ, zero, suc, ◌-◌, ◌<◌, ◌≤◌, Bool, true, false, cond, List, [], ◌∷◌, ◌++◌, length, take, drop, map, Option, Some, None, All, refl, sym, ap, ◌∙◌, subst, inl, inr, arith}
+use Rattle.std.proofs.Common.{◌≡◌, ℕ, zero, suc, ◌-◌, ◌^◌, ◌<◌, ◌≤◌, Bool, true, false, cond, List, [], ◌∷◌, ◌++◌, length, take, drop, map, Option, Some, None, All, refl, sym, ap, ◌∙◌, subst, inl, inr, arith}
 use Rattle.std.proofs.Math.Seq.{take-append_seam, take-length}
 use mathlib.Core.Logic.{◌⊎◌}
 use Rattle.std.specs.List.{Contains, flat_map, slice_get}
 use Rattle.std.specs.Option.{option_to_list}
 use Rattle.std.proofs.lemmas.Bool.{cases_Bool}
-use Rattle.std.proofs.lemmas.List.{length-append, length-map, take-append-drop}
+use Rattle.std.proofs.lemmas.List.{length-append, length-drop, length-map, length-take-le, take-append-drop}
 use Rattle.std.proofs.lemmas.List.Elements.{All-append, All-contains, All-head, All-map, All-nil, All-tail, All-weaker, Contains-append_cases}
 use Rattle.gc_graph.specs.declared.line.Line.{Line}
 use Rattle.gc_graph.specs.declared.line.Line.TheVariants as L
@@ -21,6 +21,7 @@ use Rattle.gc_graph.specs.Members.{Contains-cons_cases, Contains-map_some}
 use Rattle.gc_graph.specs.RegionSteps.{Answer, HasDone, HasDoneFirst, entries_by, entry_of, op_of, queue_of, reply_line}
 use Rattle.gc_graph.specs.RegionSteps.Answer.{Replied, Told}
 use Rattle.gc_graph.specs.State.{State}
+use Rattle.cross_thread_region.specs.declared.chronicle.PlacedEntry.{PlacedEntry}
 use Rattle.cross_thread_region.specs.Calls.{Begins}
 use Rattle.cross_thread_region.specs.Histories.{entries_of}
 use Rattle.heap_cycle.specs.Refused.{RefusalsTold}
@@ -209,6 +210,32 @@ is_told_by s h threads told most = record {
   taken = threads.taken;
   few = omega (arith, threads.few, threads.few_replies, most);
 }
+
+-- so it told at most 2^31
+pub told_few : (h : Shared) → IsTold h → length (told_lines h) ≤ 2 ^ 31
+told_few h is = elim (cases_Bool h.telling) [
+  | inl telling ↦ (
+      let entries : List PlacedEntry = drop h.shown (taken_of h) in
+      let lines : told_lines h ≡ h.threads.replies ++ map (λ entry. L.Entry entry) (entries_of entries) =
+      ap (λ b. cond b (h.threads.replies ++ map (λ entry. L.Entry entry) (entries_of entries)) []) telling in
+      omega (
+        arith,
+        is.few,
+        is.taken,
+        ap length lines,
+        length-append h.threads.replies (map (λ entry. L.Entry entry) (entries_of entries)),
+        length-map (entries_of entries) (λ (entry : Entry). L.Entry entry),
+        length-map entries (λ (placed : PlacedEntry). placed.entry),
+        length-drop h.shown (taken_of h),
+        length-take-le h.taken h.region is.taken,
+      )
+      )
+  | inr quiet ↦ (
+      let none : length (told_lines h) ≡ 0 =
+      ap (λ b. length (cond b (h.threads.replies ++ map (λ entry. L.Entry entry) (entries_of (drop h.shown (taken_of h)))) [])) quiet in
+      omega (arith, none)
+      )
+]
 
 -- the replies that threads which went are told go on to tell the totals of the state before that
 pub totals_after : (command : Command) (s going : State) (h after : Shared) → MayHaveGone command s h after → AreTotalsOf going h.threads.replies

@@ -1,5 +1,5 @@
 -- What is owed of a command, between the parts of a heap with the region before it and after it, and the outcome that it ended.
-use Rattle.std.specs.Prelude.{◌≡◌, ◌⊎◌, ℕ, ◌*◌, ◌≤◌, ◌<◌, ◌++◌, true, false, [], ◌∷◌, length, Some}
+use Rattle.std.specs.Prelude.{◌≡◌, ◌⊎◌, ℕ, ◌*◌, ◌≤◌, ◌<◌, ◌++◌, Bool, true, false, [], ◌∷◌, length, Some}
 use Rattle.gc_graph.specs.declared.command.Command.{Command}
 use Rattle.gc_graph.specs.declared.command.Command.TheVariants as C
 use Rattle.gc_graph.specs.declared.line.Line.TheVariants as L
@@ -35,9 +35,23 @@ pub record IsAsked (s : Parts) (h : Shared) (o : Printed) : Type 0 where
   pub nothing : TellsNothing o
   pub room : word_count s.objects.shape ≤ 2 * o.room
 
--- a command that leaves the region alone was done: it is a step, whose lines the outcome tells, and ended it; where it is a step of a cycle
+-- whether a command leaves the region, its history and the threads as they are: the owner's calls, starts, pauses and what is said
+-- to threads don't
+abbrev pub leaves_region : Command → Bool
+leaves_region (C.Export p x) = false
+leaves_region (C.Import x p) = false
+leaves_region C.GcStart = false
+leaves_region (C.GcFinish want) = false
+leaves_region (C.GcNow want) = false
+leaves_region (C.At j order) = false
+leaves_region C.ThreadsGo = false
+leaves_region C.ThreadsJoin = false
+leaves_region _ = true
+
+-- such a command was done: it is a step, whose lines the outcome tells, and ended it; where it is a step of a cycle
 -- that tells that it is done, it found all; and it kept what the owner took before
 pub record IsDoneAlone (command : Command) (old new : Parts) (begun o : Printed) : Type 0 where
+  pub alone : leaves_region command ≡ true
   pub ended : IsEnded o
   pub step : Step (setup_of old) (state_of old) command [] (outcome_lines o new.cycle.ran) (answered (state_of new))
   pub frame : IsFrame old (counted new) (last_line o)
@@ -82,7 +96,8 @@ pub record IsJoinDone (old : Parts) (before : Shared) (new : Parts) (after : Sha
   pub grey : new.objects.grey ≡ old.objects.grey
   pub ordinal : new.cycle.rest.ordinal ≡ old.cycle.rest.ordinal
 
--- one of both
+-- one of these
 abbrev pub IsCommandDone : Command → Parts → Shared → Parts → Shared → Printed → Printed → Type 0
 IsCommandDone command old before new after begun o =
-    IsCarriedOut command old before new after begun o ⊎ ((command ≡ C.ThreadsJoin) × IsJoinDone old before new after begun o)
+    (IsDoneAlone command old new begun o × (after ≡ before))
+    ⊎ (IsCarriedOut command old before new after begun o ⊎ ((command ≡ C.ThreadsJoin) × IsJoinDone old before new after begun o))

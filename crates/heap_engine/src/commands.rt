@@ -39,10 +39,6 @@ pub(crate) fn run<R: Threads, G: Gate + Send + Sync + 'static>(
     ensures done { IsCommandDone command.now parts.old shared.old parts.new shared.new
         outcome.old outcome.new }
 {
-    parts.objects.shape_is_valid();
-    gc_graph::steps_follow_the_history();
-    gc_graph::steps_leave_threads();
-    gc_graph::nodes_stay_put();
     match *command {
         Command::New { p, t, e } => new_object(parts, outcome, p, t, e),
         Command::Set { p, f, q } => set(parts, outcome, p, f, q),

@@ -128,6 +128,10 @@ impl Core {
         self.parts.objects.shape_is_valid();
         gc_graph::step_keeps_valid();
         gc_graph::steps_count();
+        gc_graph::steps_follow_the_history();
+        gc_graph::steps_leave_threads();
+        gc_graph::nodes_stay_put();
+        gc_graph::commands_are_answered_in_kind();
         self.before = self.shared.history();
         self.going = after(&self.going, &self.parts, command);
         self.outcome.begin();

@@ -9,6 +9,7 @@ use Rattle.heap_engine.proofs.cycles.step.Goals as goal
 pub returns : goal.returns
 returns c = record {
   done = record {
+    alone = refl;
     ended = line_ends c.args.outcome.now c.end.new.self c.step.result c.end.ensures;
     step = rw (ended_alone c.args.outcome.now c.end.new.self c.step.new.parts.cycle.ran c.step.result c.end.ensures c.requires.nothing.numbers c.requires.nothing.calm) (refl, c.step.ensures.step);
     frame = subst (IsFrame c.args.parts.now (counted c.step.new.parts)) (sym (last_is c.args.outcome.now c.end.new.self c.step.result c.end.ensures)) c.step.ensures.frame;

@@ -11,5 +11,5 @@ returns c =
     let s : Parts = c.args.parts.now in
     record {
       done = handles_done (C.Copy c.args.p c.args.q) s c.args.outcome.now c.end.new.self c.copy.new.self (copied_in s.handles c.args.p c.args.q) c.end.ensures c.requires.nothing c.copy.ensures
-          (tied_copy s c.args.p c.args.q c.requires.ready.tied) (refl, (refl, refl)) (λ n is. cc);
+          (tied_copy s c.args.p c.args.q c.requires.ready.tied) (refl, (refl, refl)) refl (λ n is. cc);
     }

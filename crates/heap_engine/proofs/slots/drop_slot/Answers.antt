@@ -11,5 +11,5 @@ returns c =
     let s : Parts = c.args.parts.now in
     record {
       done = handles_done (C.Drop c.args.p) s c.args.outcome.now c.end.new.self c.put.new.self (put_in s.handles c.args.p None) c.end.ensures c.requires.nothing c.put.ensures
-          (tied_slot s c.args.p None refl c.requires.ready.tied) (refl, (refl, refl)) (λ n is. cc);
+          (tied_slot s c.args.p None refl c.requires.ready.tied) (refl, (refl, refl)) refl (λ n is. cc);
     }

@@ -25,5 +25,5 @@ returns c =
                 c.line_of.ensures (has_read c) c.put.ensures,
           )
           (read_frame true s c.read_weakly.new.parts c.put.new.self c.args.p c.weak_target-target.result (get_or s.handles.weak c.args.w None) c.line_of.result
-          c.requires.ready.tied (has_read c) c.weak_target-target.ensures.target c.put.ensures c.line_of.ensures) (λ n is. cc);
+          c.requires.ready.tied (has_read c) c.weak_target-target.ensures.target c.put.ensures c.line_of.ensures) refl (λ n is. cc);
     }

@@ -11,5 +11,5 @@ returns c =
     let s : Parts = c.args.parts.now in
     record {
       done = handles_done (C.Weak c.args.w c.args.p) s c.args.outcome.now c.end.new.self c.weaken.new.self (weakened_in s.handles c.args.w c.args.p) c.end.ensures c.requires.nothing c.weaken.ensures
-          (tied_weak s c.args.w c.args.p c.requires.ready.tied) (refl, (refl, refl)) (λ n is. cc);
+          (tied_weak s c.args.w c.args.p c.requires.ready.tied) (refl, (refl, refl)) refl (λ n is. cc);
     }

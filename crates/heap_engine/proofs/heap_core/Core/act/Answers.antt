@@ -1,75 +1,67 @@
 mod Others
 mod Joins
-use Rattle.std.proofs.Common.{◌≡◌, ℕ, ◌<◌, true, false, cond, [], ◌∷◌, ◌++◌, Option, IfSome, length, drop, map, sym, ap, ◌∙◌, subst, arith, rules, ◌+◌, List, Some, All, refl}
+use Rattle.std.proofs.Common.{◌≡◌, ◌<◌, true, false, length, sym, ap, ◌∙◌, subst, arith, rules}
 use Rattle.std.proofs.lemmas.Bool.{true≢false}
-use Rattle.std.specs.List.{Contains}
-use Rattle.gc_graph.specs.declared.command.Command.{Command}
 use Rattle.gc_graph.specs.declared.command.Command.TheVariants as C
-use Rattle.gc_graph.specs.declared.line.Line.{Line}
 use Rattle.gc_graph.specs.declared.line.Line.TheVariants as L
-use Rattle.gc_graph.specs.declared.phase.Phase.{Phase}
-use Rattle.gc_graph.specs.Graph.{IsWithin}
-use Rattle.gc_graph.specs.Outcomes.{answered}
-use Rattle.gc_graph.specs.Reach.{HoldsAll}
-use Rattle.gc_graph.specs.State.{Setup, State, slot_targets, strong_region_targets}
-use Rattle.gc_graph.specs.Step.{Step}
-use Rattle.gc_graph.specs.ThreadLaw.{IsCounted}
-use Rattle.gc_graph.specs.Valid.{IsValid}
-use Rattle.cross_thread_region.specs.Histories.{entries_of}
-use Rattle.marker_core.specs.Bodies.{holds}
-use Rattle.heap_cycle.specs.PlacesInWords.{kept_of}
-use Rattle.heap_cycle.specs.Crews.{IsIdleOrLong}
-use Rattle.heap_cycle.specs.Objects.{HaveCallbacks, refusals_told_of}
-use Rattle.heap_cycle.specs.Refused.{RefusalsTold}
-use Rattle.heap_cycle.specs.declared.parts.Parts.{Parts}
 use Rattle.heap_cycle.specs.declared.shared.Shared.{Shared}
-use Rattle.heap_cycle.specs.Cycles.{AreSlotsMarked, HasNoRefusedPush}
-use Rattle.heap_cycle.specs.Parts.{setup_of, state_of, counted, IsManned, IsReady}
-use Rattle.heap_cycle.specs.Printed.{Printed, TellsNode, IsOutcome, lines_with, outcome_lines}
+use Rattle.heap_cycle.specs.Parts.{counted}
+use Rattle.heap_cycle.specs.Printed.{Printed}
 use Rattle.heap_cycle.specs.Region.{made}
-use Rattle.heap_cycle.specs.Shared.{HasShared, taken_of, told_lines, joined_shared}
 use Rattle.heap_cycle.specs.Views.{CycleView}
-use Rattle.heap_cycle.specs.Walks.{IsWalkToldIn}
-use Rattle.heap_engine.specs.Ended.{last_line}
-use Rattle.heap_engine.proofs.OutcomeLines.{ended_lines, walk_in_lines, last_alone}
-use Rattle.heap_engine.proofs.RegionAlone.{made_behind}
-use Rattle.heap_engine.proofs.MarksTold.{all_lent, all_traced, items_dealt, roots_marked, some_run, started_last, stepped_last, still_marking, was_marking}
-use Rattle.heap_engine.proofs.LastLines.{last_plain, started_by, stepped_by}
-use Rattle.heap_engine.proofs.ThreadsTold.{has_begun, none_ahead, totals_after, joined_behind, none_started, not_stepped, told_joined, totals_joined, walk_joined}
-use Rattle.heap_engine.specs.Going.{AreTotalsOf, HasTold, IsReplyLine}
-use Rattle.heap_engine.proofs.ThreadsKept.{shared_quiet, told_quiet}
 use Rattle.heap_engine.proofs.heap_core.Core.act.Given as given
+use mathlib.Core.Logic.{◌⊎◌}
+use Rattle.gc_graph.specs.Lawful.{IsAllowed}
+use Rattle.heap_engine.specs.CarriedOut.{IsCarriedOut, IsJoinDone}
+use Rattle.heap_engine.proofs.CommandsDone.{alone_done, asked_of, few_ran}
+use Rattle.heap_engine.proofs.ThreadsTold.{told_few}
+use Rattle.heap_cycle.specs.Views.{CycleView}
 use Rattle.heap_engine.proofs.heap_core.Core.act.Goals as goal
-use Rattle.std.proofs.lemmas.List.{length-append}
-use Rattle.gc_graph.specs.declared.region.Entry.{Entry}
-use Rattle.heap_cycle.specs.Ties.{manned_grey}
-use Rattle.cross_thread_region.specs.declared.chronicle.PlacedEntry.{PlacedEntry}
-use Rattle.cross_thread_region.specs.Calls.{Begins}
-use Rattle.heap_engine.proofs.Joined.{ready_counted}
-use Rattle.heap_engine.proofs.Tellings.{tells_same, told_by}
 use Rattle.std.proofs.Common.{inl, inr}
 use Rattle.heap_engine.proofs.heap_core.Core.act.Answers.Others as O
 use Rattle.heap_engine.proofs.heap_core.Core.act.Answers.Joins as J
 
--- what the command asks: the region and the threads are as they were, once the last command tells nothing more
+-- what the command asks
 pub run-requires-clause-asked : goal.run-requires-clause-asked
 run-requires-clause-asked d c κs live =
-    let opened : c.self.inside.closed ≡ false = rw (← c.self.view_is) at c.requires.opened in
-    record {
-      ready = c.self.invariant.ready opened;
-      shared = subst (HasShared c.self.inside.parts) (sym c.begin-2.ensures) (shared_quiet c.self.inside.parts c.self.inside.shared c.self.invariant.shared);
-      told = subst HasTold (sym c.begin-2.ensures) (told_quiet c.self.inside.shared c.self.invariant.replies);
-      quiet = ap (λ (h : Shared). h.telling) c.begin-2.ensures;
-      counted = c.self.invariant.counted;
-      nothing = record {
-        numbers = ap (λ (o : Printed). o.numbers) c.begin.ensures;
-        calm = ap (λ (o : Printed). o.prefinalises) c.begin.ensures;
-      };
-      room = omega (arith, c.self.invariant.room, ap (λ (o : Printed). o.room) c.begin.ensures);
-    }
+    asked_of c.self.inside c.begin-2.new.self c.begin.new.self c.self.invariant (rw (← c.self.view_is) at c.requires.opened) c.begin-2.ensures c.begin.ensures
+
+-- it was carried out, or was a join
+carried_out : (d : given.Over) (c : goal.After-count d)
+    → IsCarriedOut c.args.command.now c.self.inside.parts c.begin-2.new.self c.run.new.parts c.run.new.shared c.begin.new.self c.run.new.outcome
+    ⊎ ((c.args.command.now ≡ C.ThreadsJoin) × IsJoinDone c.self.inside.parts c.begin-2.new.self c.run.new.parts c.run.new.shared c.begin.new.self c.run.new.outcome)
+carried_out d c = elim c.run.ensures.done [
+  | inl alone ↦ (
+      let allowed : IsAllowed (length c.self.inside.parts.objects.types) c.args.command.now = rw (← c.self.view_is) at c.requires.allowed in
+      let done : IsCarriedOut c.args.command.now c.self.inside.parts c.begin-2.new.self c.run.new.parts c.begin-2.new.self c.begin.new.self c.run.new.outcome =
+      alone_done c.args.command.now c.self.inside.parts c.run.new.parts c.begin-2.new.self c.begin.new.self c.run.new.outcome c.steps_follow_the_history.ensures
+      c.steps_leave_threads.ensures c.nodes_stay_put.ensures c.shape_is_valid.ensures.some allowed
+      (asked_of c.self.inside c.begin-2.new.self c.begin.new.self c.self.invariant (rw (← c.self.view_is) at c.requires.opened) c.begin-2.ensures c.begin.ensures)
+      alone.0 in
+      inl (subst (λ (h : Shared). IsCarriedOut c.args.command.now c.self.inside.parts c.begin-2.new.self c.run.new.parts h c.begin.new.self c.run.new.outcome) (sym alone.1) done)
+      )
+  | inr other ↦ other
+]
+
+pub count-requires : goal.count-requires
+count-requires d c =
+    let few : c.self.inside.parts.cycle.rest.ordinal < 1000000 = rw (← c.self.view_is) at c.requires.few in
+    omega (
+      arith,
+      few_ran c.args.command.now c.self.inside.parts c.run.new.parts c.begin-2.new.self c.run.new.shared c.begin.new.self c.run.new.outcome c.run.ensures.done few,
+      ap length c.ran.ensures,
+      ap (λ (k : CycleView). length k.ran) c.count_command.ensures,
+    )
+
+-- the outcome has few lines, and more are told before them only where it has one
+pub overflow_add-result : goal.overflow_add-result
+overflow_add-result d c = elim (carried_out d c) [
+  | inl is ↦ omega (arith, c.told_count.ensures, ap length (O.told_none d c is), c.count.type_inv)
+  | inr w ↦ omega (arith, c.told_count.ensures, told_few c.run.new.shared (J.is_told d c w.0 w.1), c.count.ensures, J.one_line d c w.0 w.1)
+]
 
 pub invariant_of-self : goal.invariant_of-self
-invariant_of-self d c = elim c.run.ensures.done [
+invariant_of-self d c = elim (carried_out d c) [
   | inl is ↦ record {
     ready = λ goes. O.ready d c is;
     manned = λ goes. O.manned d c is;
@@ -106,5 +98,5 @@ invariant_of-self d c = elim c.run.ensures.done [
 
 pub returns : goal.returns
 returns d c = record {
-  acted = rw (← c.self.view_is) (elim c.run.ensures.done [ inl is ↦ O.acted d c is | inr w ↦ J.acted d c w.0 w.1 ]);
+  acted = rw (← c.self.view_is) (elim (carried_out d c) [ inl is ↦ O.acted d c is | inr w ↦ J.acted d c w.0 w.1 ]);
 }

@@ -15,11 +15,11 @@ use Rattle.heap_cycle.specs.declared.shared.Shared.{Shared}
 use Rattle.heap_cycle.specs.Parts.{setup_of, state_of, counted, IsManned, IsReady}
 use Rattle.heap_cycle.specs.Printed.{Printed, TellsNode, IsOutcome, outcome_lines}
 use Rattle.heap_cycle.specs.Region.{made}
-use Rattle.heap_cycle.specs.Shared.{HasShared, taken_of, told_lines}
+use Rattle.heap_cycle.specs.Shared.{IsTold, HasShared, taken_of, told_lines}
 use Rattle.heap_cycle.specs.Views.{CycleView}
 use Rattle.heap_cycle.specs.Walks.{IsWalkToldIn}
 use Rattle.heap_engine.proofs.OutcomeLines.{ended_alone}
-use Rattle.heap_engine.proofs.ThreadsTold.{joined_behind, none_started, not_stepped, told_joined, totals_joined, walk_joined, has_begun, none_ahead}
+use Rattle.heap_engine.proofs.ThreadsTold.{is_told_by, joined_behind, none_started, not_stepped, told_joined, totals_joined, walk_joined, has_begun, none_ahead}
 use Rattle.heap_engine.specs.Going.{AreTotalsOf, HasTold}
 use Rattle.heap_engine.proofs.ThreadsKept.{shared_quiet, told_quiet}
 use Rattle.heap_cycle.specs.Ties.{manned_grey}
@@ -191,3 +191,11 @@ module _
     took = λ n step. (let never : C.ThreadsJoin ≡ C.GcStep n = sym e ∙ step in cc);
     done = λ t told. absurd (no_step t told);
   }
+
+  -- what the region tells is little
+  pub is_told : IsTold c.run.new.shared
+  is_told = is_told_by (state_of (record c.run.new.parts { cycle = c.count_command.new.self })) c.run.new.shared shared.threads replies ready.most
+
+  -- and the outcome has one line
+  pub one_line : length (outcome_lines c.run.new.outcome c.ran.result.now) ≡ 1
+  one_line = ap (λ (r : List (ℕ × ℕ)). length (outcome_lines c.run.new.outcome r)) c.ran.ensures ∙ ap length alone

@@ -1,5 +1,5 @@
 -- A command that is no join, once it is counted: what the heap then is, and what is owed of it.
-use Rattle.std.proofs.Common.{◌≡◌, ℕ, ◌<◌, ◌≤◌, true, false, cond, [], ◌∷◌, ◌++◌, Option, IfSome, length, drop, map, sym, ap, ◌∙◌, subst, arith, ◌+◌, List}
+use Rattle.std.proofs.Common.{◌≡◌, ℕ, ◌<◌, true, false, cond, [], ◌∷◌, ◌++◌, Option, IfSome, length, drop, map, sym, ap, ◌∙◌, subst, arith, ◌+◌, List}
 use Rattle.std.specs.List.{Contains}
 use Rattle.gc_graph.specs.declared.command.Command.{Command}
 use Rattle.gc_graph.specs.declared.line.Line.{Line}
@@ -59,19 +59,6 @@ module _
   pub before_is : c.history.result.value ≡ taken_of c.begin-2.new.self
   before_is = c.history.ensures ∙ sym (ap taken_of c.begin-2.ensures)
 
-  -- no more prefinalizers ran than commands can have registered
-  pub few_ran : length c.ran.result.now ≤ 16000000
-  few_ran =
-      let few : c.self.inside.parts.cycle.rest.ordinal < 1000000 = rw (← c.self.view_is) at c.requires.few in
-      omega (
-        arith,
-        is.frame.tied.few,
-        is.frame.ordinal,
-        few,
-        ap length c.ran.ensures,
-        ap (λ (k : CycleView). length k.ran) c.count_command.ensures,
-      )
-
   -- the step that the command is
   pub step :
       Step (setup_of c.self.inside.parts) (state_of c.self.inside.parts) c.args.command.now (made (taken_of c.begin-2.new.self) (taken_of c.run.new.shared))
@@ -89,8 +76,8 @@ module _
       ap (λ (k : CycleView). length k.ran) c.count_command.ensures,
     );
     last_plain = subst (λ (last : Option Line). IfSome last (λ l. TellsNode l → ⊥)) (sym is.ended)
-        (last_plain (setup_of c.self.inside.parts) (state_of c.self.inside.parts) c.args.command.now (made (taken_of c.begin-2.new.self) (taken_of c.run.new.shared)) c.run.new.outcome c.run.new.parts.cycle.ran
-        (last_line c.run.new.outcome) (answered (state_of c.run.new.parts)) is.other step);
+        (last_plain c.commands_are_answered_in_kind.ensures (setup_of c.self.inside.parts) (state_of c.self.inside.parts) c.args.command.now (made (taken_of c.begin-2.new.self) (taken_of c.run.new.shared)) c.run.new.outcome c.run.new.parts.cycle.ran
+        (last_line c.run.new.outcome) (answered (state_of c.run.new.parts)) step);
   }
 
   -- the parts are ready for the next command
@@ -160,8 +147,8 @@ module _
       let last : (last_line c.run.new.outcome) ≡ L.Started =
       started_last c.run.new.outcome s.cycle.ran (last_line c.run.new.outcome) (subst (λ ls. Contains ls L.Started) (sym lines) there) in
       let command : c.args.command.now ≡ C.GcStart =
-      started_by (setup_of c.self.inside.parts) (state_of c.self.inside.parts) c.args.command.now (made (taken_of c.begin-2.new.self) (taken_of c.run.new.shared)) c.run.new.outcome s.cycle.ran (last_line c.run.new.outcome)
-      (answered (state_of s)) is.other step last in
+      started_by c.commands_are_answered_in_kind.ensures (setup_of c.self.inside.parts) (state_of c.self.inside.parts) c.args.command.now (made (taken_of c.begin-2.new.self) (taken_of c.run.new.shared)) c.run.new.outcome s.cycle.ran (last_line c.run.new.outcome)
+      (answered (state_of s)) step last in
       let marked : AreSlotsMarked s (taken_of c.run.new.shared) = is.marked command last in
       roots_marked (record s { cycle = c.count_command.new.self }) (taken_of c.run.new.shared) ready.tied ready.valid shared.region
       (record { slots = marked.slots; shared = marked.shared })
@@ -175,8 +162,8 @@ module _
       let told : lines_with c.run.new.outcome s.cycle.ran (last_line c.run.new.outcome) ≡ L.Step t true ∷ [] = lines ∙ alone in
       let last : (last_line c.run.new.outcome) ≡ L.Step t true = stepped_last c.run.new.outcome s.cycle.ran (last_line c.run.new.outcome) t true told in
       let command : (n : ℕ) × (c.args.command.now ≡ C.GcStep n) =
-      stepped_by (setup_of old) (state_of old) c.args.command.now (made (taken_of c.begin-2.new.self) (taken_of c.run.new.shared)) c.run.new.outcome s.cycle.ran (last_line c.run.new.outcome) (answered (state_of s))
-      is.other step t true last in
+      stepped_by c.commands_are_answered_in_kind.ensures (setup_of old) (state_of old) c.args.command.now (made (taken_of c.begin-2.new.self) (taken_of c.run.new.shared)) c.run.new.outcome s.cycle.ran (last_line c.run.new.outcome) (answered (state_of s))
+      step t true last in
       let step : Step (setup_of old) (state_of old) (C.GcStep command.0) (made (taken_of c.begin-2.new.self) (taken_of c.run.new.shared)) (L.Step t true ∷ []) (answered (state_of s)) =
       subst (λ ls. Step (setup_of old) (state_of old) (C.GcStep command.0) (made (taken_of c.begin-2.new.self) (taken_of c.run.new.shared)) ls (answered (state_of s))) told
       (subst (λ (k : Command). Step (setup_of old) (state_of old) k (made (taken_of c.begin-2.new.self) (taken_of c.run.new.shared)) (lines_with c.run.new.outcome s.cycle.ran (last_line c.run.new.outcome)) (answered (state_of s)))
