@@ -12,7 +12,8 @@ const MOST_MARKERS: u32 = 8;
 
 // The number from `least` to `most` that a text is.
 fn number_within(least: u32, most: u32, text: Option<&str>) -> Option<Option<u32>>
-    ensures number { result ≡ read_if_given (within least most) (option_map (λ s. s.now) text.entry) }
+    ensures number { result ≡ read_if_given (within least most)
+        (option_map (λ s. s.now) text.entry) }
     ensures range { IfSome result (λ asked. IfSome asked (λ n. (least ≤ n) × (n ≤ most))) }
 {
     let Some(text) = text else {
@@ -36,7 +37,8 @@ pub(crate) fn pages_of(text: Option<&str>) -> Option<Option<u32>>
 
 /// The number of markers that a text asks for.
 pub(crate) fn markers_of(text: Option<&str>) -> Option<Option<u32>>
-    ensures number { result ≡ read_if_given (within 0 most_markers) (option_map (λ s. s.now) text.entry) }
+    ensures number { result ≡ read_if_given (within 0 most_markers)
+        (option_map (λ s. s.now) text.entry) }
     ensures range { IfSome result (λ asked. IfSome asked (λ n. n ≤ most_markers)) }
 {
     number_within(0, MOST_MARKERS, text)

@@ -75,11 +75,3 @@ pub walk_in_lines : (phase : Phase) (old new : RefusalsTold) (o : Printed) (ran 
     → IsWalkToldIn phase old new (lines_with o ran line)
 walk_in_lines phase old new o ran line told =
     walk_told phase old new o.numbers (line ∷ ran_lines o.prefinalises ran) (line_first phase old new line o.prefinalises ran told)
-
--- ---- one line alone
-
--- an outcome that finalises nothing and runs no prefinalizer has its last line
-pub last_alone : (o : Printed) (ran : List (ℕ × ℕ)) (line : Line) → o.numbers ≡ [] → o.prefinalises ≡ false → o.last ≡ Some line → outcome_lines o ran ≡ line ∷ []
-last_alone o ran line numbers calm last =
-    ap (λ ns. finalise_lines ns ++ later_lines o ran) numbers ∙ ap (λ (l : Option Line). option_to_list l ++ ran_lines o.prefinalises ran) last
-    ∙ ap (λ b. line ∷ ran_lines b ran) calm

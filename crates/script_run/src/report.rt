@@ -185,7 +185,8 @@ fn print_end<K: Sink>(line: &Line, pieces: &mut Pieces, sink: &mut K) -> Result<
 /// Prints a line for each of so many types.
 fn print_types<K: Sink>(count: u32, pieces: &mut Pieces, sink: &mut K) -> Result<(), Failed>
     ensures bytes { Writes (with_held_back (K.written sink.old) pieces.old)
-        (with_held_back (K.written sink.new) pieces.new) (lines_bytes (counted_lines count)) result }
+        (with_held_back (K.written sink.new) pieces.new)
+        (lines_bytes (counted_lines count)) result }
     ensures taken { TookMore (K.written sink.old) (K.written sink.new) }
     ensures cause { FailsByFault (K.faults sink.old) (K.faults sink.new) result }
 {
