@@ -14,7 +14,7 @@ use Rattle.gc_graph.specs.ObjectSteps.{part_of}
 use Rattle.gc_graph.specs.Valid.{IsTyped}
 use Rattle.gc_graph.specs.Step.{Step}
 use Rattle.gc_graph.specs.Lawful.{IsAllowed}
-use Rattle.gc_graph.specs.ValidLaw.{StepKeepsValid, EmptyIsValid}
+use Rattle.gc_graph.specs.ValidLaw.{StepKeepsValid, OrdersKeepValid, EmptyIsValid}
 use Rattle.gc_graph.proofs.Sound.{SlotNames, RegionNames, IsSound, sound_from, valid_from}
 use Rattle.gc_graph.proofs.ValidCases.{landed}
 use Rattle.gc_graph.proofs.ValidHandles.{Root, slot_sound, weak_sound, stack_sound}
@@ -22,7 +22,7 @@ use Rattle.gc_graph.proofs.WeakReads.{read_sound}
 use Rattle.gc_graph.proofs.Effects.{Effect, with_effect, Fits}
 use Rattle.gc_graph.proofs.Effects.Effect.{Refuses, Tells, Fills, Empties, Gets, Weakens, Stacks, Sets, Puts, Pairs}
 use Rattle.gc_graph.proofs.PlainSteps.{plain_step}
-use Rattle.gc_graph.proofs.ValidRegion.{export_keeps, import_keeps, at_keeps, go_keeps, join_keeps}
+use Rattle.gc_graph.proofs.ValidRegion.{others_sound, export_keeps, import_keeps, at_keeps, go_keeps, join_keeps}
 use Rattle.gc_graph.proofs.ValidWrites.{fit_sound, reference_fit, pair_fit, plain_fit, from_content, parts_of}
 use Rattle.gc_graph.proofs.ValidSweeps.{sweep_keeps, sweep_all_keeps}
 use Rattle.gc_graph.proofs.ValidCycles.{gc_start_keeps, gc_step_keeps, gc_finish_keeps, gc_now_keeps, stat_keeps}
@@ -74,6 +74,10 @@ step_sound setup old new command piece lines pages a g h =
 pub step_keeps_valid : StepKeepsValid
 step_keeps_valid setup old new command piece lines pages allowed valid step =
     valid_from setup new (step_sound setup old new command piece lines pages allowed (sound_from setup old valid) step)
+
+pub orders_keep_valid : OrdersKeepValid
+orders_keep_valid setup s entries others valid =
+    valid_from setup _ (others_sound setup s entries others (sound_from setup s valid))
 
 -- ---- the first state
 

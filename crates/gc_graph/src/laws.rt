@@ -8,7 +8,7 @@ ghost use Rattle.gc_graph.specs.ReadBack.{LinesReadBack, ReportReadsBack};
 ghost use Rattle.gc_graph.specs.RefusalLaw.{RefusedLeavesAll, MemoryLeavesAll, FullLeavesRest};
 ghost use Rattle.gc_graph.specs.RefusalsExactLaw.{RefusedForTheFirstReason};
 ghost use Rattle.gc_graph.specs.ScriptLaw.{TextsAreJudged, ScriptsAreInRanges};
-ghost use Rattle.gc_graph.specs.ValidLaw.{EmptyIsValid, StepKeepsValid};
+ghost use Rattle.gc_graph.specs.ValidLaw.{EmptyIsValid, OrdersKeepValid, StepKeepsValid};
 
 /// A heap without objects is valid.
 pub fn empty_is_valid()
@@ -19,6 +19,12 @@ pub fn empty_is_valid()
 /// on, what may be kept stays closed, holds the roots, and has live nodes alone.
 pub fn step_keeps_valid()
     ensures { StepKeepsValid }
+{}
+
+/// Entries of threads that run, once they are taken, keep a state valid: the region's slots go on to name
+/// live nodes, and what may be kept stays closed, with the roots in it.
+pub fn orders_keep_valid()
+    ensures { OrdersKeepValid }
 {}
 
 /// What a prefinalizer's action does leaves each object its place, its life and the fields of its

@@ -49,10 +49,10 @@ pub use graphs::Graph;
 pub use kind::{Kind, Value};
 pub use laws::{
     actions_leave_nodes, empty_is_valid, full_leaves_rest, lines_read_back, may_is_bounded,
-    memory_leaves_all, pages_have_one_bucket, pause_bounds_meet, placement_is_free,
-    refused_for_the_first_reason, refused_leaves_all, replies_are_of_one_thread, report_reads_back,
-    runs_are_replayed, scripts_are_in_ranges, step_keeps_valid, sweeps_finalise_dead,
-    texts_are_judged,
+    memory_leaves_all, orders_keep_valid, pages_have_one_bucket, pause_bounds_meet,
+    placement_is_free, refused_for_the_first_reason, refused_leaves_all, replies_are_of_one_thread,
+    report_reads_back, runs_are_replayed, scripts_are_in_ranges, step_keeps_valid,
+    sweeps_finalise_dead, texts_are_judged,
 };
 pub use laws_of_accesses::{
     commands_are_answered_in_kind, new_objects_are_empty, slots_are_copied, steps_leave_the_rest,
