@@ -3,5 +3,6 @@ mod Noted
 mod Filling
 mod Emptying
 mod Asked
+mod Passes
 mod Seen
 mod Places

@@ -1,9 +1,10 @@
 -- Regions and passes, and what a call with a pass makes of them.
-use Rattle.std.specs.Prelude.{◌≡◌, ◌⊎◌, ℕ, ◌==◌, not, nat_lt, List, [], ◌∷◌, ◌++◌, length, filter, take, Option, Some, None, IsSome, if◌then◌else◌}
+use Rattle.std.specs.Prelude.{◌≡◌, ◌≢◌, ◌⊎◌, ℕ, ◌==◌, not, nat_lt, List, [], ◌∷◌, ◌++◌, length, filter, take, Option, Some, None, IsSome, All, Contains, if◌then◌else◌}
 use Rattle.gc_graph.specs.declared.region.Op.{Op}
 use Rattle.gc_graph.specs.declared.region.Reply.{Reply}
 use Rattle.gc_graph.specs.declared.region.Reply.TheVariants as R
 use Rattle.gc_graph.specs.History.{reply_of, IsLegal}
+use Rattle.gc_graph.specs.Outcomes.{IsThreadOp}
 use Rattle.cross_thread_region.specs.declared.chronicle.PlacedEntry.{PlacedEntry}
 use Rattle.cross_thread_region.specs.Histories.{entries_of, slots_of}
 
@@ -39,9 +40,21 @@ free_history region = history_in region.inside
 abbrev pub Begins : List PlacedEntry → List PlacedEntry → Type 0
 Begins seen history = take (length seen) history ≡ seen
 
--- a pass is one of the region: what it has seen begins the history
+-- an entry whose number isn't 0 is an order of a thread: exports, imports, starts and pauses are the owner's
+abbrev pub AreByRight : List PlacedEntry → Type 0
+AreByRight history = All (λ (p : PlacedEntry). p.entry.thread ≢ 0 → IsThreadOp p.entry.op) history
+
+-- the history goes on with what the pass has not seen: no entry of that names the pass, and where the pass is the first one each
+-- names a pass that is out
+pub record Continues (pass : PassView) (history : List PlacedEntry) : Type 0 where
+  pub rest : List PlacedEntry
+  pub all : history ≡ pass.seen ++ rest
+  pub others : All (λ (p : PlacedEntry). p.entry.thread ≢ pass.number) rest
+  pub outs : pass.number ≡ 0 → All (λ (p : PlacedEntry). Contains pass.out p.entry.thread) rest
+
+-- a pass is one of the region, whose history goes on from what the pass has seen
 abbrev pub IsPassOf : RegionView → PassView → Type 0
-IsPassOf region pass = Begins pass.seen (free_history region)
+IsPassOf region pass = Continues pass (free_history region)
 
 -- a call may be made with the pass: it is one of the region, whose history no pause holds
 pub record IsPassReady (region : RegionView) (pass : PassView) : Type 0 where
@@ -75,11 +88,10 @@ pub record IsCallRefused (old : RegionView) (pass : PassView) (reply : Reply) (n
   pub region : new ≡ old
   pub pass_stays : passed ≡ pass
 
--- the entry is the next one of the history, which begins with what the pass had seen and stays legal, and the pass has seen it all
+-- the entry is the next one of the history, which stays legal, and the pass has seen it all
 pub record IsEntered (old : RegionView) (pass : PassView) (placed : PlacedEntry) (reply : Reply) (new : RegionView) (passed : PassView) : Type 0 where
   pub reply_is : reply ≡ placed.entry.reply
   pub region : new ≡ given_back old (free_history old ++ placed ∷ [])
-  pub begins : Begins pass.seen (free_history new)
   pub seen : passed ≡ record pass { seen = free_history new }
   pub legal : IsLegal (entries_of (free_history new))
 
@@ -88,12 +100,16 @@ abbrev pub IsCallAnswered : RegionView → PassView → Op → ℕ → Reply →
 IsCallAnswered old pass op place reply new passed =
     IsCallRefused old pass reply new passed ⊎ IsEntered old pass (placed_entry_of pass (free_history old) op place) reply new passed
 
--- what a call leaves as it was: the next one may be made with the pass, which keeps its number, and there are as many slots
+-- what a call leaves as it was: the next one may be made with the pass, which keeps its number, there are as many slots, and calls may
+-- be made with each other pass of the region, where the first one has the number of this one out
 pub record StaysReady (old : RegionView) (pass : PassView) (new : RegionView) (passed : PassView) : Type 0 where
   pub ready : IsPassReady new passed
   pub slots : new.slots ≡ old.slots
   pub number : passed.number ≡ pass.number
   pub out : passed.out ≡ pass.out
+  pub others :
+      (other : PassView) → IsPassReady old other → other.number ≢ pass.number → (other.number ≡ 0 → Contains other.out pass.number)
+      → IsPassReady new other
 
 -- ---- passes
 

@@ -1,13 +1,11 @@
 -- For crates above: what one more entry at the end of a history does.
-use Rattle.std.specs.Prelude.{◌≡◌, ℕ, Bool, true, false, List, [], ◌∷◌, ◌++◌, length, replicate, refl}
-use Rattle.std.specs.Prelude.{slice_index_or, nat_lt, if◌then◌else◌, take, drop}
-use Rattle.std.proofs.Common.{arith, sym, ap, ◌∙◌, subst}
+use Rattle.std.specs.Prelude.{◌≡◌, ℕ, List, [], ◌∷◌, ◌++◌, length, replicate, refl}
+use Rattle.std.proofs.Common.{false, sym, ap, ◌∙◌, subst}
 use Rattle.std.proofs.lemmas.List.{map-append}
 use Rattle.gc_graph.specs.State.RegionSlot.{Vacant}
 use Rattle.gc_graph.specs.History.{region_after, replayed, reply_of, started_after, started_through, MayPause, IsLegal}
 use Rattle.gc_graph.specs.Replays.{replayed-append, started-append, legal-append, replayed_length}
 use Rattle.cross_thread_region.specs.declared.chronicle.PlacedEntry.{PlacedEntry}
-use Rattle.cross_thread_region.specs.Calls.{Begins, longer}
 use Rattle.cross_thread_region.specs.Histories.{entries_of, slots_of, places_in_history, places_with, places_through, is_started}
 
 places_on : (places : List ℕ) (history : List PlacedEntry) (placed : PlacedEntry)
@@ -40,27 +38,3 @@ legal_next history placed l reply may =
 -- a region has 32 slots after each history
 pub slots_len : (history : List PlacedEntry) → length (slots_of history) ≡ 32
 slots_len history = replayed_length (replicate 32 Vacant) (entries_of history)
-
--- ---- what passes have seen
-
--- a whole history begins itself
-pub begins_itself : (history : List PlacedEntry) → Begins history history
-begins_itself [] = refl
-begins_itself (placed ∷ history) = ap (λ rest. placed ∷ rest) (begins_itself history)
-
--- what began a history begins it with its next entry too
-pub begins_next : (seen history : List PlacedEntry) (placed : PlacedEntry) → Begins seen history → Begins seen (history ++ placed ∷ [])
-begins_next [] history placed b = refl
-begins_next (s ∷ seen) [] placed b = absurd (omega (arith, ap length b))
-begins_next (s ∷ seen) (x ∷ history) placed b =
-    ap (λ first. first ∷ take (length seen) (history ++ placed ∷ [])) (ap (λ xs. slice_index_or xs 0 s) b)
-    ∙ ap (λ rest. s ∷ rest) (begins_next seen history placed (ap (drop 1) b))
-
-longer_by : (bigger : Bool) (history seen other : List PlacedEntry) → Begins seen history → Begins other history
-    → Begins (if bigger then other else seen) history
-longer_by true history seen other b c = c
-longer_by false history seen other b c = b
-
--- after a join a pass has still seen a beginning of the history
-pub begins_joined : (history seen other : List PlacedEntry) → Begins seen history → Begins other history → Begins (longer seen other) history
-begins_joined history seen other b c = longer_by (nat_lt (length seen) (length other)) history seen other b c

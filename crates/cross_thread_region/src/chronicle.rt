@@ -1,16 +1,18 @@
 // What a region keeps: its history, and what the slots hold after it.
 
-ghost use Rattle.std.specs.Prelude.{◌≡◌, ◌+◌, ◌<◌, ◌≤◌, ◌^◌, ℕ, Bool, Some, true, None, [], ◌∷◌, ◌++◌};
+ghost use Rattle.std.specs.Prelude.{◌≡◌, ◌≢◌, ◌+◌, ◌<◌, ◌≤◌, ◌^◌, ℕ, Bool, Some, true, None, [], ◌∷◌, ◌++◌};
 ghost use Rattle.std.specs.Prelude.{IfOk, length, slice_get, slice_index_or};
 ghost use Rattle.gc_graph.specs.declared.region.Op.TheVariants as O;
 ghost use Rattle.gc_graph.specs.declared.region.Reply.TheVariants as R;
 ghost use Rattle.gc_graph.specs.History.{IsLegal, NamesWeakSlots};
+ghost use Rattle.gc_graph.specs.Outcomes.{IsThreadOp};
 ghost use Rattle.persistent_slots.specs.Clearing.{MayBeAsked, AnswersBy, ClearsInTurn};
 ghost use Rattle.cross_thread_region.specs.Histories.{entries_of, slots_of, is_started};
 ghost use Rattle.cross_thread_region.specs.Histories.{place_at, strong_place, weak_places};
 ghost use Rattle.cross_thread_region.specs.Histories.{start_told, told_of_slot};
 ghost use Rattle.cross_thread_region.specs.WeakReads.{weak_read_at};
 ghost use Rattle.cross_thread_region.specs.Pauses.{dying_of};
+ghost use Rattle.cross_thread_region.specs.Calls.{AreByRight};
 ghost use Rattle.cross_thread_region.specs.Contents.{MayAdd, IsCallWithin, placed_entry};
 
 use crate::contents::{
@@ -94,9 +96,10 @@ impl Chronicle {
         self.reads[i as usize]
     }
 
-    /// The history is legal.
+    /// The history is legal, and each entry of another number than 0 is an order of a thread.
     pub fn is_legal(&self)
-        ensures { IsLegal (entries_of self.now.history) }
+        ensures legal { IsLegal (entries_of self.now.history) }
+        ensures right { AreByRight self.now.history }
     {
         let _ = &self.history;
     }
@@ -141,6 +144,7 @@ impl Chronicle {
     /// Makes an entry that is no pause's. Want of memory is free.
     pub fn add(&mut self, thread: u32, op: Op, place: u32) -> Reply
         requires within { IsCallWithin 32 op }
+        requires right { thread ≢ 0 → IsThreadOp op }
         requires small { place + 1 < 2 ^ 32 }
         ensures added { MayAdd self.old thread op place result self.new }
         ensures legal { IsLegal (entries_of self.new.history) }
@@ -176,6 +180,7 @@ impl Chronicle {
 
     /// Clears the weak slots whose place the test calls dead, and makes the pause's entry.
     pub fn end_pause<F: FnMut(u32) -> bool>(&mut self, thread: u32, dead: F) -> u32
+        requires first { thread ≡ 0 }
         requires started { is_started self.old.history ≡ true }
         requires asked { self.old.asked ≡ weak_places self.old.history }
         requires asks { MayBeAsked F.pre F.step dead self.old.asked }

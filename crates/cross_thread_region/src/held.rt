@@ -1,7 +1,10 @@
 // The history between the beginning and the end of a pause.
 
 ghost use Rattle.std.specs.Prelude.{◌≡◌, ◌<◌, true};
-ghost use Rattle.cross_thread_region.specs.Histories.{is_started, strong_place, weak_place, weak_places};
+ghost use Rattle.gc_graph.specs.History.{IsLegal};
+ghost use Rattle.cross_thread_region.specs.Calls.{AreByRight};
+ghost use Rattle.cross_thread_region.specs.Histories.{entries_of, is_started, strong_place};
+ghost use Rattle.cross_thread_region.specs.Histories.{weak_place, weak_places};
 
 use crate::chronicle::Chronicle;
 use std::marker::Model;
@@ -28,8 +31,11 @@ impl Model for HeldRegion {
 impl HeldRegion {
     pub(crate) fn begin(mut chronicle: Chronicle) -> HeldRegion
         requires { is_started chronicle.history ≡ true }
-        ensures { result ≡ chronicle.history }
+        ensures history { result ≡ chronicle.history }
+        ensures legal { IsLegal (entries_of result) }
+        ensures right { AreByRight result }
     {
+        chronicle.is_legal();
         chronicle.begin_pause();
         HeldRegion { chronicle }
     }

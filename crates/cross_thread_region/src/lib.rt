@@ -14,11 +14,12 @@
 //! one thread gives at that point; where memory is wanting nothing changes. A slot's place is that
 //! of the export from which its node came. A pause visits the strong slots' places, clears exactly
 //! the weak slots whose place its test calls dead, and needs no memory, because the start before it
-//! took the room. A pass has seen a beginning of the history, which ends with its last call's entry.
+//! took the room. A pass has seen a beginning of the history, which ends with its last call's entry;
+//! an entry that the first pass has not seen names a pass that is out. Exports, imports, starts and
+//! pauses are of the first pass.
 //!
 //! What is only tested or not said: that memory suffices for an entry. There is no lock yet, so a
-//! call takes the region for itself. That an entry which a pass has not seen is of a pass that is
-//! out, is for the caller to know.
+//! call takes the region for itself.
 #![tactic(auto)]
 
 mod chronicle;

@@ -1,13 +1,13 @@
 // What a collection does with the region: it starts, and its pause takes the history and gives it back.
 
-ghost use Rattle.std.specs.Prelude.{◌≡◌, ℕ, Bool, true, None, length};
+ghost use Rattle.std.specs.Prelude.{◌≡◌, ◌≢◌, ℕ, Bool, true, None, length};
 ghost use Rattle.gc_graph.specs.declared.region.Op.TheVariants as O;
 ghost use Rattle.gc_graph.specs.declared.region.Reply.TheVariants as R;
 ghost use Rattle.gc_graph.specs.History.{IsLegal, NamesWeakSlots};
 ghost use Rattle.persistent_slots.specs.Clearing.{MayBeAsked, AnswersBy, ClearsInTurn};
 ghost use Rattle.cross_thread_region.specs.Histories.{entries_of, slots_of, is_started, start_told, weak_places};
 ghost use Rattle.cross_thread_region.specs.Calls.{free_history, IsPassReady, IsCallAnswered, StaysReady};
-ghost use Rattle.cross_thread_region.specs.Calls.{Begins, held_by_pause, given_back};
+ghost use Rattle.cross_thread_region.specs.Calls.{AreByRight, Continues, PassView, held_by_pause, given_back};
 ghost use Rattle.cross_thread_region.specs.Pauses.{history_paused, dying_of};
 
 use crate::held::HeldRegion;
@@ -42,6 +42,9 @@ impl Region {
         requires first { pass.old.number ≡ 0 }
         requires started { is_started (free_history self.old) ≡ true }
         ensures held { result ≡ free_history self.old }
+        ensures found { Continues pass.old result }
+        ensures legal { IsLegal (entries_of result) }
+        ensures right { AreByRight result }
         ensures region { self.new ≡ held_by_pause self.old }
         ensures pass { pass.new ≡ pass.old }
     {
@@ -58,12 +61,14 @@ impl Region {
         dead: F,
     ) -> u32
         requires held { self.old.inside ≡ None }
-        requires pass { Begins pass.old.seen held }
+        requires found { Continues pass.old held }
         requires first { pass.old.number ≡ 0 }
         requires asks { MayBeAsked F.pre F.step dead (weak_places held) }
         ensures region { self.new ≡ given_back self.old (history_paused pass.old held result) }
         ensures seen { pass.new ≡ record pass.old { seen = history_paused pass.old held result } }
         ensures ready { IsPassReady self.new pass.new }
+        ensures others { (other : PassView) → Continues other held → other.number ≢ 0
+            → IsPassReady self.new other }
         ensures legal { IsLegal (entries_of (free_history self.new)) }
         ensures weak { NamesWeakSlots result (slots_of held) }
         ensures cleared { ClearsInTurn F.step dead (weak_places held)

@@ -1,15 +1,16 @@
 // The region: slots that threads share, and the history of what was done to them
 // (`include/cppgc/cross-thread-persistent.h`).
 
-ghost use Rattle.std.specs.Prelude.{◌≡◌, ◌+◌, ◌<◌, ◌≤◌, ◌^◌, ◌∷◌, Some};
+ghost use Rattle.std.specs.Prelude.{◌≡◌, ◌≢◌, ◌+◌, ◌<◌, ◌≤◌, ◌^◌, ◌∷◌, Some};
 ghost use Rattle.std.specs.Prelude.{IfOk, IsSome, Contains, length, slice_get};
 ghost use Rattle.gc_graph.specs.declared.region.Op.TheVariants as O;
 ghost use Rattle.cross_thread_region.specs.Histories.{entries_of, place_told};
 ghost use Rattle.cross_thread_region.specs.WeakReads.{weak_read_at};
-ghost use Rattle.cross_thread_region.specs.Calls.{new_region, first_pass, free_history, IsPassReady, IsCallAnswered, StaysReady};
+ghost use Rattle.cross_thread_region.specs.Calls.{new_region, first_pass, free_history, AreByRight, IsPassReady, IsCallAnswered, StaysReady};
 ghost use Rattle.cross_thread_region.specs.Calls.{held_by_pause, split_off, pass_joined_with};
 ghost use Rattle.cross_thread_region.specs.Contents.{IsCallWithin};
 ghost use Rattle.gc_graph.specs.History.{IsLegal};
+ghost use Rattle.gc_graph.specs.Outcomes.{IsThreadOp};
 
 use crate::chronicle::Chronicle;
 use crate::pass::Pass;
@@ -161,10 +162,12 @@ impl Region {
         self.inside().read_place(i)
     }
 
-    /// The history is legal. Whoever calls this has the law.
+    /// The history is legal, and each entry of another number than 0 is an order of a thread. Whoever
+    /// calls this has the law.
     pub fn is_legal(&self)
         requires { IsSome self.now.inside }
-        ensures { IsLegal (entries_of (free_history self.now)) }
+        ensures legal { IsLegal (entries_of (free_history self.now)) }
+        ensures right { AreByRight (free_history self.now) }
     {
         self.inside().is_legal();
     }
@@ -223,6 +226,7 @@ impl Region {
     pub(crate) fn enter(&mut self, pass: &mut Pass, op: Op, place: u32) -> Reply
         requires ready { IsPassReady self.old pass.old }
         requires within { IsCallWithin self.old.slots op }
+        requires right { pass.old.number ≢ 0 → IsThreadOp op }
         requires small { place + 1 < 2 ^ 32 }
         ensures call { IsCallAnswered self.old pass.old op place result self.new pass.new }
         ensures stays { StaysReady self.old pass.old self.new pass.new }

@@ -7,7 +7,7 @@ pub invariant_of-self-2 : goal.invariant_of-self-2
 invariant_of-self-2 c =
     let noted : length c.self.inside.reads.items + 1 < vec_capacity c.push_reserved-2.new.self = search rules in
     let room : length c.self.inside.history.items + 1 < vec_capacity c.push_reserved.new.self = search rules in (
-      call_kept _ _ c.self.inside.history.items _ _ c.args.thread c.args.place c.args.op c.reply_of-reply.result _ _ _ c.self.invariant.0 c.requires.within
+      call_kept _ _ c.self.inside.history.items _ _ c.args.thread c.args.place c.args.op c.reply_of-reply.result _ _ _ c.self.invariant.0 c.requires.within c.requires.right
           c.requires.small c.reply_of-reply.ensures room c.change.ensures.slots c.change.ensures.places (search rules),
       c.self.invariant.1,
       call_noted _ _ c.self.inside.history.items _ _ _ c.args.thread c.args.place c.args.op c.reply_of-reply.result c.self.inside.reads.items

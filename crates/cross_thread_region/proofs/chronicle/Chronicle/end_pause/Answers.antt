@@ -12,7 +12,7 @@ clear_emptied-cleared-requires-clause-left g c = left_len _ _ _ _ c.clear_dead.e
 
 pub invariant_of-self : goal.invariant_of-self
 invariant_of-self g c = (
-  pause_kept _ _ c.self.inside.history.items _ _ c.args.thread c.clear_emptied-cleared.result _ _ c.self.invariant.0
+  pause_kept _ _ c.self.inside.history.items _ _ c.args.thread c.clear_emptied-cleared.result _ _ c.self.invariant.0 c.requires.first
       (subst (λ (v : ChronicleView). is_started v.history ≡ true) (sym c.self.view_is) c.requires.started) c.clear_emptied-cleared.ensures.weak
       c.clear_emptied-cleared.ensures.slots c.push_reserved.ensures.items,
   left_len _ _ _ _ c.clear_dead.ensures.cleared ∙ c.self.invariant.1,
