@@ -19,8 +19,7 @@ use Rattle.cross_thread_region.specs.declared.chronicle.PlacedEntry.{PlacedEntry
 use Rattle.cross_thread_region.specs.Histories.{entries_of, slots_of}
 use Rattle.cross_thread_region.specs.Calls.{RegionView, PassView, IsCallAnswered, placed_entry_of, free_history}
 use Rattle.thread_queues.specs.declared.totals.Totals.{Totals}
-use Rattle.thread_queues.specs.Going.{HasSeenAll}
-use Rattle.thread_queues.specs.Orders.{OrderDone, HasMade, LineTellsTotals}
+use Rattle.thread_queues.specs.Orders.{IsOwn, OrderDone, HasMade, LineTellsTotals}
 use Rattle.thread_queues.proofs.Entries.{none_made}
 
 -- a call is answered by its entry, where memory isn't wanting
@@ -58,7 +57,7 @@ entered j op old pass number thread_op after grown legal = record {
 
 -- an order was done by its call
 pub order_called : (j : ℕ) (order : Order) (totals : Totals) (op : Op) (old : RegionView) (pass : PassView) (reply : Reply) (new : RegionView) (passed : PassView) (line : Line)
-    → op_of order ≡ Some op → IsThreadOp op → MakesEntry j op → HasSeenAll old pass j → IsCallAnswered old pass op 0 reply new passed → line ≡ L.Reply j reply
+    → op_of order ≡ Some op → IsThreadOp op → MakesEntry j op → IsOwn old pass j → IsCallAnswered old pass op 0 reply new passed → line ≡ L.Reply j reply
     → OrderDone j order totals (free_history old) (free_history new) line
 order_called j order totals op old pass reply new passed text is thread_op makes s call tells = elim call [
   | inl r ↦ record {

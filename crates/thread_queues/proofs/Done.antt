@@ -1,8 +1,8 @@
 -- The orders of one thread, one after the other.
-use Rattle.std.proofs.Common.{◌≡◌, ℕ, List, [], ◌∷◌, ◌++◌, map, refl, sym, ap, ◌∙◌, subst}
+use Rattle.std.proofs.Common.{◌≡◌, ℕ, List, [], ◌∷◌, ◌++◌, refl, sym, ap, ◌∙◌, subst}
 use Rattle.std.specs.List.{All}
 use Rattle.std.proofs.lemmas.List.{append-nil, append_assoc, map-append}
-use Rattle.std.proofs.lemmas.List.Elements.{All-push}
+use Rattle.std.proofs.lemmas.List.Elements.{All-nil, All-push}
 use Rattle.gc_graph.specs.declared.command.Order.{Order}
 use Rattle.gc_graph.specs.declared.line.Line.{Line}
 use Rattle.gc_graph.specs.declared.region.Entry.{Entry}
@@ -37,21 +37,21 @@ none_entered j [] entries h = h
 none_entered j (answer ∷ answers) entries h = absurd h
 
 -- a thread has not begun
-pub thread_none : (j : ℕ) (totals : Totals) (history : List PlacedEntry) (replies : List Line) → ThreadDone j [] totals history history replies replies
-thread_none j totals history replies = record {
+pub thread_none : (j : ℕ) (totals : Totals) (history : List PlacedEntry) (replies : List Line) → replies ≡ [] → ThreadDone j [] totals history history replies
+thread_none j totals history replies e = record {
   made = [];
   has_made = none_made j history;
   answers = [];
   done = refl;
-  replies = sym (append-nil replies);
-  told = λ t. t;
+  replies_are = e;
+  told = subst (All (LineTellsTotals totals)) (sym e) (All-nil (LineTellsTotals totals));
 }
 
 -- a thread has done one more order
-pub thread_next : (j : ℕ) (orders : List Order) (order : Order) (totals : Totals) (a b c : List PlacedEntry) (old mid new : List Line) (line : Line)
-    → ThreadDone j orders totals a b old mid → OrderDone j order totals b c line → new ≡ mid ++ line ∷ []
-    → ThreadDone j (orders ++ order ∷ []) totals a c old new
-thread_next j orders order totals a b c old mid new line t o e = record {
+pub thread_next : (j : ℕ) (orders : List Order) (order : Order) (totals : Totals) (a b c : List PlacedEntry) (old new : List Line) (line : Line)
+    → ThreadDone j orders totals a b old → OrderDone j order totals b c line → new ≡ old ++ line ∷ []
+    → ThreadDone j (orders ++ order ∷ []) totals a c new
+thread_next j orders order totals a b c old new line t o e = record {
   made = t.made ++ o.made;
   has_made = made_on j a b c t.made o.made t.has_made o.has_made;
   answers = t.answers ++ o.answer ∷ [];
@@ -59,9 +59,8 @@ thread_next j orders order totals a b c old mid new line t o e = record {
       subst (HasDone j (orders ++ order ∷ []) (t.answers ++ o.answer ∷ []))
       (sym (entries_append t.made o.made ∙ ap (λ l. entries_of t.made ++ l) o.entries))
       (done_next j orders t.answers (entries_of t.made) order o.answer t.done o.answers_order);
-  replies =
-      e ∙ ap (λ l. mid ++ l ∷ []) o.line_is ∙ ap (λ l. l ++ reply_line j o.answer ∷ []) t.replies
-      ∙ append_assoc old (map (reply_line j) t.answers) (reply_line j o.answer ∷ [])
-      ∙ ap (λ l. old ++ l) (sym (map-append (reply_line j) t.answers (o.answer ∷ [])));
-  told = λ all. subst (All (LineTellsTotals totals)) (sym e) (All-push (LineTellsTotals totals) mid line (t.told all) o.told);
+  replies_are =
+      e ∙ ap (λ l. old ++ l ∷ []) o.line_is ∙ ap (λ l. l ++ reply_line j o.answer ∷ []) t.replies_are
+      ∙ sym (map-append (reply_line j) t.answers (o.answer ∷ []));
+  told = subst (All (LineTellsTotals totals)) (sym e) (All-push (LineTellsTotals totals) old line t.told o.told);
 }

@@ -6,7 +6,8 @@ use Rattle.std.proofs.lemmas.List.{nil_from_length}
 use Rattle.gc_graph.specs.declared.command.Order.{Order}
 use Rattle.gc_graph.specs.declared.line.Line.{Line}
 use Rattle.gc_graph.specs.Members.{Contains-head, Contains-cons, holds_from, stays_in}
-use Rattle.thread_queues.specs.Queues.{QueuesView, queue_in, threads_in, queues_left}
+use Rattle.cross_thread_region.specs.Calls.{PassView}
+use Rattle.thread_queues.specs.Queues.{QueuesView, QueueView, orders_of, replies_of, queue_in, threads_in, queues_left, view_of}
 use Rattle.thread_queues.proofs.Threads.{has_orders}
 
 left_none : (queues : List (List Order)) (j : ℕ) → Contains (range_with_len 1 8) j
@@ -26,22 +27,24 @@ all_none f first (suc n) none =
     ∙ ap (λ qs. [] ∷ qs) (all_none f (first + 1) n (λ j c. none j (Contains-cons first (range_with_len (first + 1) n) j c)))
 
 -- after the join of all threads with orders each queue is empty
-pub none_are_left : (queues : List (List Order)) → queues_left queues (threads_in queues) ≡ replicate 8 []
+none_are_left : (queues : List (List Order)) → queues_left queues (threads_in queues) ≡ replicate 8 []
 none_are_left queues = all_none (λ j. cond (list_any (λ k. eqb k j) (threads_in queues)) [] (queue_in queues j)) 1 8 (left_none queues)
 
 -- the threads that run are those with orders
-pub running_is : (queues : List (List Order)) (awaiting : Bool) (replies : List Line) (old : QueuesView)
-    → record { queues = queues; running = cond awaiting (threads_in queues) []; awaiting = awaiting; replies = replies } ≡ old → old.awaiting ≡ true
+running_is : (queues : List QueueView) (awaiting : Bool) (passes : List PassView) (old : QueuesView) → view_of queues awaiting passes ≡ old → old.awaiting ≡ true
     → old.running ≡ threads_in old.queues
-running_is queues awaiting replies old e a =
-    sym (ap (λ (v : QueuesView). v.running) e) ∙ ap (λ b. cond b (threads_in queues) []) (ap (λ (v : QueuesView). v.awaiting) e ∙ a)
-    ∙ ap (λ (v : QueuesView). threads_in v.queues) e
+running_is queues awaiting passes old viewed awaits =
+    sym (ap (λ (v : QueuesView). v.running) viewed) ∙ ap (λ b. cond b (threads_in (orders_of queues)) []) (ap (λ (v : QueuesView). v.awaiting) viewed ∙ awaits)
+    ∙ ap (λ (v : QueuesView). threads_in v.queues) viewed
 
 -- what a join leaves
-pub joined_is : (items : List (List Order)) (replies : List Line) (old : QueuesView) → old.running ≡ threads_in old.queues → items ≡ replicate 8 []
-    → replies ≡ old.replies → record { queues = items; running = []; awaiting = false; replies = replies }
-    ≡ record old { queues = queues_left old.queues old.running; running = []; awaiting = false }
-joined_is items replies old runs e r =
-    let left : items ≡ queues_left old.queues old.running = e ∙ sym (none_are_left old.queues) ∙ ap (queues_left old.queues) (sym runs) in
-    ap (λ (x : List (List Order)). record { queues = x; running = []; awaiting = false; replies = replies }) left
-    ∙ ap (λ (x : List Line). record { queues = queues_left old.queues old.running; running = []; awaiting = false; replies = x }) r
+pub joined_is : (queues left : List QueueView) (awaiting : Bool) (passes none : List PassView) (old : QueuesView) → view_of queues awaiting passes ≡ old
+    → old.awaiting ≡ true → orders_of left ≡ replicate 8 [] → replies_of left ≡ replies_of queues → none ≡ []
+    → view_of left false none ≡ record old { queues = queues_left old.queues old.running; running = []; awaiting = false; passes = [] }
+joined_is queues left awaiting passes none old viewed awaits cleared told empty =
+    let empty_queues : orders_of left ≡ queues_left old.queues old.running =
+    cleared ∙ sym (none_are_left old.queues) ∙ ap (queues_left old.queues) (sym (running_is queues awaiting passes old viewed awaits)) in
+    ap (λ (x : List (List Order)). record { queues = x; running = []; awaiting = false; replies = replies_of left; passes = none }) empty_queues
+    ∙ ap (λ (x : List Line). record { queues = queues_left old.queues old.running; running = []; awaiting = false; replies = x; passes = none })
+    (told ∙ ap (λ (v : QueuesView). v.replies) viewed)
+    ∙ ap (λ (x : List PassView). record { queues = queues_left old.queues old.running; running = []; awaiting = false; replies = old.replies; passes = x }) empty

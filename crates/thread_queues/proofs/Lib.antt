@@ -4,4 +4,6 @@ mod Calls
 mod Done
 mod Passes
 mod Through
+mod Held
+mod Few
 mod Left

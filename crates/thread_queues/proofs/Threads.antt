@@ -1,14 +1,16 @@
 -- The threads whose queues aren't empty, up to one of them.
-use Rattle.std.proofs.Common.{◌≡◌, ℕ, ◌+◌, ◌-◌, ◌<◌, Bool, true, false, List, [], ◌∷◌, ◌++◌, length, get_or, refl, sym, ap, ◌∙◌, inl, inr, arith, cond, ltb, Contains}
-use Rattle.std.specs.List.{filter, flat_map, range_with_len}
+use Rattle.std.proofs.Common.{◌≡◌, ℕ, ◌+◌, ◌-◌, ◌<◌, Bool, true, false, List, [], ◌∷◌, ◌++◌, length, get_or, refl, sym, ap, ◌∙◌, subst, inl, inr, arith, cond, ltb, Contains}
+use Rattle.std.specs.List.{All, filter, flat_map, range_with_len}
 use Rattle.std.proofs.lemmas.Bool.{cases_Bool, lt-ltb, le-ltb}
 use Rattle.std.proofs.lemmas.List.{append-nil, length-append, map-id}
 use Rattle.std.proofs.lemmas.List.FromFn.{filter_of_map_range_with_len_more}
 use Rattle.std.proofs.lemmas.List.Concat.{flat_map-append}
+use Rattle.std.proofs.lemmas.List.Elements.{All-cons}
 use Rattle.gc_graph.specs.declared.command.Order.{Order}
 use Rattle.gc_graph.specs.declared.line.Line.{Line}
-use Rattle.gc_graph.specs.Members.{Contains-head, Contains-cons, was_in, in_range}
-use Rattle.thread_queues.specs.Queues.{queue_in}
+use Rattle.gc_graph.specs.Members.{Contains-head, Contains-cons, was_in, stays_in, in_range, to_range}
+use Rattle.thread_queues.specs.Queues.{queue_in, threads_in}
+use Rattle.thread_queues.specs.Orders.{out_after}
 
 -- whether the queue of thread j isn't empty
 abbrev pub has_orders : List (List Order) → ℕ → Bool
@@ -51,6 +53,20 @@ next_has queues i l = ap (λ q. ltb 0 (length q)) (next_queue queues i) ∙ lt-l
 -- or is
 pub next_none : (queues : List (List Order)) (i : ℕ) → length (get_or queues i []) ≡ 0 → has_orders queues (i + 1) ≡ false
 next_none queues i l = ap (λ q. ltb 0 (length q)) (next_queue queues i) ∙ le-ltb 0 _ (omega (arith, l))
+
+-- a thread whose queue isn't empty is one of them
+pub has_to_go : (queues : List (List Order)) (i : ℕ) → i < 8 → has_orders queues (i + 1) ≡ true → Contains (threads_in queues) (i + 1)
+has_to_go queues i low has = stays_in (has_orders queues) (range_with_len 1 8) (i + 1) (to_range 1 8 (i + 1) (omega arith) (omega (arith, low))) has
+
+-- so each number that is out after it went is
+pub running_next : (queues : List (List Order)) (i : ℕ) (orders : List Order) (out : List ℕ) → i < 8 → queue_in queues (i + 1) ≡ orders
+    → All (Contains (threads_in queues)) out → All (Contains (threads_in queues)) (out_after (i + 1) orders out)
+running_next queues i orders out low is all = elim (cases_Bool (ltb 0 (length orders))) [
+  | inl has ↦
+      subst (λ b. All (Contains (threads_in queues)) (cond b ((i + 1) ∷ out) out)) (sym has)
+      (All-cons (Contains (threads_in queues)) (i + 1) out (has_to_go queues i low (ap (λ q. ltb 0 (length q)) is ∙ has)) all)
+  | inr empty ↦ subst (λ b. All (Contains (threads_in queues)) (cond b ((i + 1) ∷ out) out)) (sym empty) all
+]
 
 -- ---- what is told of each of them
 

@@ -1,15 +1,14 @@
 -- The threads one after the other.
-use Rattle.std.proofs.Common.{◌≡◌, ◌≢◌, ℕ, ◌+◌, ◌<◌, ◌≤◌, false, List, [], ◌++◌, length, get_or, drop, map, refl, sym, ap, ◌∙◌, subst, inl, inr, arith, cond, eqb}
-use Rattle.std.specs.List.{All, Contains, flat_map, range_with_len, sum_by}
+use Rattle.std.proofs.Common.{◌≡◌, ◌≢◌, ℕ, ◌+◌, ◌<◌, ◌≤◌, false, List, [], ◌++◌, length, map, refl, sym, ap, ◌∙◌, subst, inl, inr, arith, cond, eqb}
+use Rattle.std.specs.List.{All, Contains, flat_map, range_with_len}
 use Rattle.std.proofs.lemmas.Bool.{cases_Bool, cases_eq, ltb-false, eq-eqb, ne_eqb}
-use Rattle.std.proofs.lemmas.List.{append-nil, append_assoc, drop_more, nil_from_length}
-use Rattle.std.proofs.lemmas.List.Sums.{sum_by-cons}
-use Rattle.std.proofs.lemmas.List.Elements.{All-nil, All-weaker, All-contains}
+use Rattle.std.proofs.lemmas.List.{append-nil, append_assoc, nil_from_length}
+use Rattle.std.proofs.lemmas.List.Elements.{All-nil, All-append, All-weaker, All-contains}
 use Rattle.gc_graph.specs.declared.command.Order.{Order}
 use Rattle.gc_graph.specs.declared.line.Line.{Line}
 use Rattle.gc_graph.specs.declared.line.Line.TheVariants as L
 use Rattle.gc_graph.specs.declared.region.Entry.{Entry}
-use Rattle.gc_graph.specs.Members.{was_in, stays_in, in_range, to_range}
+use Rattle.gc_graph.specs.Members.{was_in, in_range}
 use Rattle.gc_graph.specs.History.{IsLegal}
 use Rattle.gc_graph.specs.Outcomes.{IsThreadOp}
 use Rattle.gc_graph.specs.RegionSteps.{Answer, HasDone, entries_by, reply_line}
@@ -19,7 +18,7 @@ use Rattle.thread_queues.specs.declared.totals.Totals.{Totals}
 use Rattle.thread_queues.specs.Queues.{queue_in, threads_in}
 use Rattle.thread_queues.specs.Going.{HaveGone}
 use Rattle.thread_queues.specs.Orders.{ThreadDone, LineTellsTotals}
-use Rattle.thread_queues.proofs.Threads.{has_orders, threads_to, flat_next}
+use Rattle.thread_queues.proofs.Threads.{has_orders, threads_to, has_to_go, flat_next}
 use Rattle.thread_queues.proofs.Entries.{all_entries, by_first, by_last}
 use Rattle.thread_queues.proofs.Done.{none_answered, none_entered}
 
@@ -39,11 +38,6 @@ pub record HaveGoneTo (queues : List (List Order)) (i : ℕ) (totals : Totals) (
   pub replies_are : replies ≡ flat_map (λ j. map (reply_line j) (answers j)) (threads_to queues i)
   pub told : All (LineTellsTotals totals) replies
 
--- the room that is left for the replies of a thread and of those after it
-pub room_next : (queues : List (List Order)) (i : ℕ) → i < length queues
-    → sum_by length (drop i queues) ≡ length (get_or queues i []) + sum_by length (drop (i + 1) queues)
-room_next queues i l = ap (sum_by length) (drop_more queues i [] l) ∙ sum_by-cons length (get_or queues i []) (drop (i + 1) queues)
-
 -- no thread has begun
 pub gone_none : (queues : List (List Order)) (totals : Totals) (history : List PlacedEntry) (replies : List Line) → replies ≡ []
     → HaveGoneTo queues 0 totals history history replies
@@ -59,8 +53,8 @@ gone_none queues totals history replies e = record {
   told = subst (All (LineTellsTotals totals)) (sym e) (All-nil (LineTellsTotals totals));
 }
 
-module _ (queues : List (List Order)) (i : ℕ) (totals : Totals) (a b c : List PlacedEntry) (mid new : List Line) (inside : i < 8)
-    (g : HaveGoneTo queues i totals a b mid) (t : ThreadDone (i + 1) (queue_in queues (i + 1)) totals b c mid new) where
+module _ (queues : List (List Order)) (i : ℕ) (totals : Totals) (a b c : List PlacedEntry) (mid own new : List Line) (inside : i < 8)
+    (g : HaveGoneTo queues i totals a b mid) (t : ThreadDone (i + 1) (queue_in queues (i + 1)) totals b c own) (grows : new ≡ mid ++ own) where
   -- the answers to each thread, with the next one's
   abbrev next_answers : ℕ → List Answer
   next_answers k = cond (eqb k (i + 1)) t.answers (g.answers k)
@@ -82,8 +76,7 @@ module _ (queues : List (List Order)) (i : ℕ) (totals : Totals) (a b c : List 
     | inl has ↦
         All-weaker (λ (entry : Entry). (entry.thread ≡ i + 1) × IsThreadOp entry.op) (IsOther queues)
         (λ entry own. (
-          subst (Contains (threads_in queues)) (sym own.0)
-              (stays_in (has_orders queues) (range_with_len 1 8) (i + 1) (to_range 1 8 (i + 1) (omega arith) (omega (arith, inside))) has),
+          subst (Contains (threads_in queues)) (sym own.0) (has_to_go queues i inside has),
           own.1,
         ))
         (entries_of t.made) t.has_made.own
@@ -111,7 +104,7 @@ module _ (queues : List (List Order)) (i : ℕ) (totals : Totals) (a b c : List 
 
   next_replies : new ≡ flat_map (λ j. map (reply_line j) (next_answers j)) (threads_to queues (i + 1))
   next_replies =
-      t.replies ∙ ap (λ l. l ++ map (reply_line (i + 1)) t.answers) g.replies_are
+      grows ∙ ap (λ l. mid ++ l) t.replies_are ∙ ap (λ l. l ++ map (reply_line (i + 1)) t.answers) g.replies_are
       ∙ ap (λ l. flat_map (λ j. map (reply_line j) (g.answers j)) (threads_to queues i) ++ map (reply_line (i + 1)) l) (sym answers_here)
       ∙ sym (flat_next queues (λ j. map (reply_line j) (g.answers j)) (λ j. map (reply_line j) (next_answers j)) i
       (λ k l. ap (map (reply_line k)) (answers_before k l))
@@ -132,7 +125,7 @@ module _ (queues : List (List Order)) (i : ℕ) (totals : Totals) (a b c : List 
     answers = next_answers;
     done = next_done;
     replies_are = next_replies;
-    told = t.told g.told;
+    told = subst (All (LineTellsTotals totals)) (sym grows) (All-append (LineTellsTotals totals) mid own g.told t.told);
   }
 
 -- all threads have

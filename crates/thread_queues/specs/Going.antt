@@ -1,5 +1,5 @@
 -- What comes of the orders of threads that go.
-use Rattle.std.specs.Prelude.{◌≡◌, ℕ, List, [], ◌++◌, map, All, Contains}
+use Rattle.std.specs.Prelude.{◌≡◌, ◌≢◌, ◌<◌, ℕ, List, [], ◌∷◌, ◌++◌, map, reverse, All, Contains, ⊤}
 use Rattle.std.specs.List.{flat_map}
 use Rattle.gc_graph.specs.declared.command.Order.{Order}
 use Rattle.gc_graph.specs.declared.line.Line.{Line}
@@ -10,17 +10,29 @@ use Rattle.gc_graph.specs.Outcomes.{IsThreadOp}
 use Rattle.gc_graph.specs.RegionSteps.{Answer, HasDone, entries_by, reply_line}
 use Rattle.cross_thread_region.specs.declared.chronicle.PlacedEntry.{PlacedEntry}
 use Rattle.cross_thread_region.specs.Histories.{entries_of}
-use Rattle.cross_thread_region.specs.Calls.{RegionView, PassView, IsPassReady, free_history}
+use Rattle.cross_thread_region.specs.Calls.{RegionView, PassView, IsPassReady}
 use Rattle.thread_queues.specs.declared.totals.Totals.{Totals}
-use Rattle.thread_queues.specs.Queues.{queue_in, threads_in}
+use Rattle.thread_queues.specs.Queues.{QueuesView, queue_in, threads_in}
 
--- the pass with this number may call a region of 32 slots and has seen its whole history, and no pass that was split off it is out
-pub record HasSeenAll (region : RegionView) (pass : PassView) (number : ℕ) : Type 0 where
+-- the pass is the first one, and may call a region of 32 slots
+pub record IsFirst (region : RegionView) (pass : PassView) : Type 0 where
   pub ready : IsPassReady region pass
+  pub first : pass.number ≡ 0
   pub slots : region.slots ≡ 32
-  pub number_is : pass.number ≡ number
-  pub none_out : pass.out ≡ []
-  pub seen_all : pass.seen ≡ free_history region
+
+-- each number is greater than those behind it
+abbrev pub Descend : List ℕ → Type 0
+Descend [] = ⊤
+Descend (n ∷ numbers) = All (λ m. m < n) numbers × Descend numbers
+
+-- the passes of the threads that run are out: calls may be made with each of them, none is the first one, and the numbers that the
+-- first one has out are theirs, the last one first, each once and of a thread that runs
+pub record AreOut (region : RegionView) (pass : PassView) (queues : QueuesView) : Type 0 where
+  pub ready : All (IsPassReady region) queues.passes
+  pub others : All (λ (p : PassView). p.number ≢ 0) queues.passes
+  pub numbers : pass.out ≡ reverse (map (λ (p : PassView). p.number) queues.passes)
+  pub once : Descend pass.out
+  pub running : All (Contains queues.running) pass.out
 
 -- these are the totals
 abbrev pub AreTotals : Totals → ℕ → ℕ → ℕ → ℕ → Type 0

@@ -1,5 +1,5 @@
--- What the crate's own code cites: one order done, and those of one thread.
-use Rattle.std.specs.Prelude.{◌≡◌, ℕ, List, ◌++◌, map, All, ⊤}
+-- What the crate's own code cites: one order done, those of one thread, and the passes with which threads do them.
+use Rattle.std.specs.Prelude.{◌≡◌, ◌≢◌, ◌<◌, ℕ, nat_lt, List, ◌∷◌, ◌++◌, length, map, reverse, All, Contains, ⊤, if◌then◌else◌}
 use Rattle.gc_graph.specs.declared.command.Order.{Order}
 use Rattle.gc_graph.specs.declared.line.Line.{Line}
 use Rattle.gc_graph.specs.declared.line.Line.TheVariants as L
@@ -9,8 +9,9 @@ use Rattle.gc_graph.specs.Outcomes.{IsThreadOp}
 use Rattle.gc_graph.specs.RegionSteps.{Answer, AnswersOrder, HasDone, entry_of, op_of, reply_line}
 use Rattle.cross_thread_region.specs.declared.chronicle.PlacedEntry.{PlacedEntry}
 use Rattle.cross_thread_region.specs.Histories.{entries_of}
+use Rattle.cross_thread_region.specs.Calls.{RegionView, PassView, IsPassReady}
 use Rattle.thread_queues.specs.declared.totals.Totals.{Totals}
-use Rattle.thread_queues.specs.Going.{AreTotals}
+use Rattle.thread_queues.specs.Going.{AreTotals, Descend}
 
 -- a line that tells totals tells these
 abbrev pub LineTellsTotals : Totals → Line → Type 0
@@ -33,11 +34,42 @@ pub record OrderDone (j : ℕ) (order : Order) (totals : Totals) (before after :
   pub line_is : line ≡ reply_line j answer
   pub told : LineTellsTotals totals line
 
--- thread j has done its orders, and the lines that came to these replies tell how they were answered
-pub record ThreadDone (j : ℕ) (orders : List Order) (totals : Totals) (before after : List PlacedEntry) (old new : List Line) : Type 0 where
+-- thread j has done its orders, and these replies tell how they were answered
+pub record ThreadDone (j : ℕ) (orders : List Order) (totals : Totals) (before after : List PlacedEntry) (replies : List Line) : Type 0 where
   pub made : List PlacedEntry
   pub has_made : HasMade j before made after
   pub answers : List Answer
   pub done : HasDone j orders answers (entries_of made)
-  pub replies : new ≡ old ++ map (reply_line j) answers
-  pub told : All (LineTellsTotals totals) old → All (LineTellsTotals totals) new
+  pub replies_are : replies ≡ map (reply_line j) answers
+  pub told : All (LineTellsTotals totals) replies
+
+-- ---- passes
+
+-- the pass has this number, and may call a region of 32 slots
+pub record IsOwn (region : RegionView) (pass : PassView) (number : ℕ) : Type 0 where
+  pub ready : IsPassReady region pass
+  pub slots : region.slots ≡ 32
+  pub number_is : pass.number ≡ number
+
+-- calls may be made with each other pass than the one with this number, where the first one has that number out
+abbrev pub OthersStay : RegionView → ℕ → RegionView → Type 0
+OthersStay old number new =
+    (other : PassView) → IsPassReady old other → other.number ≢ number → (other.number ≡ 0 → Contains other.out number) → IsPassReady new other
+
+-- calls may be made with these passes, and the numbers that the first one has out are theirs, the last one first, each once
+pub record HasOut (region : RegionView) (pass : PassView) (passes : List PassView) : Type 0 where
+  pub ready : All (IsPassReady region) passes
+  pub numbers : pass.out ≡ reverse (map (λ (p : PassView). p.number) passes)
+  pub once : Descend pass.out
+
+-- the passes that are out are of threads before this one
+pub record HasOutBelow (region : RegionView) (pass : PassView) (passes : List PassView) (thread : ℕ) : Type 0 where
+  pub out : HasOut region pass passes
+  pub others : All (λ (p : PassView). p.number ≢ 0) passes
+  pub below : All (λ (p : PassView). p.number < thread) passes
+  pub low : All (λ n. n < thread) pass.out
+  pub few : length passes < thread
+
+-- the numbers that are out after a thread went: its own too, where it has orders
+abbrev pub out_after : ℕ → List Order → List ℕ → List ℕ
+out_after thread orders out = if nat_lt 0 (length orders) then thread ∷ out else out

@@ -1,81 +1,106 @@
 // What threads do when they go: their orders, each with a pass of its own.
 
-ghost use Rattle.std.specs.Prelude.{◌≡◌, ◌+◌, ◌≤◌, [], All, length, sum_by, vec_len, vec_capacity};
+ghost use Rattle.std.specs.Prelude.{◌≡◌, ◌+◌, ◌≤◌, [], All, Contains, length, vec_capacity};
 ghost use Rattle.gc_graph.specs.Lawful.{IsAllowedOrder};
 ghost use Rattle.gc_graph.specs.declared.line.Line.TheVariants as L;
 ghost use Rattle.cross_thread_region.specs.Calls.{free_history};
-ghost use Rattle.thread_queues.specs.Going.{HasSeenAll, HaveGone};
+ghost use Rattle.thread_queues.specs.Queues.{orders_of, replies_of, threads_in};
+ghost use Rattle.thread_queues.specs.Going.{IsFirst, HaveGone};
 ghost use Rattle.thread_queues.specs.Orders.{OrderDone, ThreadDone};
+ghost use Rattle.thread_queues.specs.Orders.{IsOwn, OthersStay, HasOutBelow, out_after};
 
 use crate::queue::Queue;
 use crate::totals::Totals;
 use cross_thread_region::{Pass, Region};
 use gc_graph::{Line, Order, Reply};
 
-/// Threads 1 to 8 do the orders of their queues, one thread after the other. There is room for their
-/// replies.
+/// Threads 1 to 8 do the orders of their queues, one thread after the other. The passes of those
+/// that have orders stay out.
 pub(crate) fn go_all(
-    queues: &Vec<Queue>,
+    queues: &mut Vec<Queue>,
+    passes: &mut Vec<Pass>,
     region: &mut Region,
     pass: &mut Pass,
     totals: Totals,
-    replies: &mut Vec<Line>,
 )
-    requires eight { length queues.now.items ≡ 8 }
-    requires pass { HasSeenAll region.old pass.old 0 }
-    requires none { replies.old.items ≡ [] }
-    requires room { sum_by length queues.now.items ≤ vec_capacity replies.old }
-    ensures went { HaveGone queues.now.items totals (free_history region.old)
-        (free_history region.new) replies.new.items }
-    ensures pass { HasSeenAll region.new pass.new 0 }
-    ensures room { vec_capacity replies.new ≡ vec_capacity replies.old }
+    requires eight { length queues.old.items ≡ 8 }
+    requires none { passes.old.items ≡ [] }
+    requires room { 8 ≤ vec_capacity passes.old }
+    requires first { IsFirst region.old pass.old }
+    requires alone { pass.old.out ≡ [] }
+    ensures orders { orders_of queues.new.items ≡ orders_of queues.old.items }
+    ensures went { HaveGone (orders_of queues.old.items) totals (free_history region.old)
+        (free_history region.new) (replies_of queues.new.items) }
+    ensures pass { pass.new ≡ record pass.old { out = pass.new.out } }
+    ensures first { IsFirst region.new pass.new }
+    ensures outs { HasOutBelow region.new pass.new passes.new.items 9 }
+    ensures running { All (Contains (threads_in (orders_of queues.old.items))) pass.new.out }
+    ensures room { vec_capacity passes.new ≡ vec_capacity passes.old }
 {
     for i in 0..queues.len() {
-        go(
-            i as u32 + 1,
-            queues[i].orders(),
-            region,
-            pass,
-            totals,
-            replies,
-        );
+        let queue = &mut queues[i];
+        go(i as u32 + 1, queue, passes, region, pass, totals);
     }
 }
 
-/// A thread does its orders, with a pass that is split off the first one and joined again.
+/// A thread does its orders, where it has any, with a pass that is split off the first one.
 fn go(
     thread: u32,
-    orders: &[Order],
+    queue: &mut Queue,
+    passes: &mut Vec<Pass>,
     region: &mut Region,
     pass: &mut Pass,
     totals: Totals,
-    replies: &mut Vec<Line>,
 )
-    requires first { 1 ≤ thread }
-    requires last { thread ≤ 8 }
-    requires allowed { All IsAllowedOrder orders.now }
-    requires pass { HasSeenAll region.old pass.old 0 }
-    requires room { vec_len replies.old + length orders.now ≤ vec_capacity replies.old }
-    ensures done { ThreadDone thread orders.now totals (free_history region.old)
-        (free_history region.new) replies.old.items replies.new.items }
-    ensures pass { HasSeenAll region.new pass.new 0 }
-    ensures len { vec_len replies.new ≡ vec_len replies.old + length orders.now }
-    ensures room { vec_capacity replies.new ≡ vec_capacity replies.old }
+    requires above { 1 ≤ thread }
+    requires below { thread ≤ 8 }
+    requires room { 8 ≤ vec_capacity passes.old }
+    requires first { IsFirst region.old pass.old }
+    requires outs { HasOutBelow region.old pass.old passes.old.items thread }
+    ensures done { ThreadDone thread queue.old.orders totals (free_history region.old)
+        (free_history region.new) queue.new.replies }
+    ensures orders { queue.new.orders ≡ queue.old.orders }
+    ensures pass { pass.new
+        ≡ record pass.old { out = out_after thread queue.old.orders pass.old.out } }
+    ensures first { IsFirst region.new pass.new }
+    ensures outs { HasOutBelow region.new pass.new passes.new.items (thread + 1) }
+    ensures room { vec_capacity passes.new ≡ vec_capacity passes.old }
 {
-    let mut own = region.split_pass(pass, thread);
-    for order in orders {
-        replies.push_reserved(do_order(thread, *order, region, &mut own, totals));
+    if queue.is_empty() {
+        queue.forget();
+    } else {
+        let mut own = region.split_pass(pass, thread);
+        queue.do_orders(thread, region, &mut own, totals);
+        passes.push_reserved(own);
     }
-    region.join_pass(pass, own);
+}
+
+impl Queue {
+    /// The thread does the orders with a pass of its own, and is told what each was answered.
+    fn do_orders(&mut self, thread: u32, region: &mut Region, own: &mut Pass, totals: Totals)
+        requires own { IsOwn region.old own.old thread }
+        ensures done { ThreadDone thread self.old.orders totals (free_history region.old)
+            (free_history region.new) self.new.replies }
+        ensures orders { self.new.orders ≡ self.old.orders }
+        ensures own { IsOwn region.new own.new thread }
+        ensures others { OthersStay region.old thread region.new }
+    {
+        self.replies.clear();
+        for i in 0..self.orders.len() {
+            let reply = do_order(thread, self.orders[i], region, own, totals);
+            self.replies.push_reserved(reply);
+        }
+    }
 }
 
 /// What the order was answered. Want of memory is free.
 fn do_order(thread: u32, order: Order, region: &mut Region, own: &mut Pass, totals: Totals) -> Line
     requires allowed { IsAllowedOrder order }
-    requires own { HasSeenAll region.old own.old thread }
+    requires own { IsOwn region.old own.old thread }
     ensures done { OrderDone thread order totals (free_history region.old)
         (free_history region.new) result }
-    ensures own { HasSeenAll region.new own.new thread }
+    ensures own { IsOwn region.new own.new thread }
+    ensures others { OthersStay region.old thread region.new }
 {
     match order {
         Order::Copy { from, into } => told(thread, region.copy(own, from, into)),

@@ -1,10 +1,13 @@
 // The queues of the script's threads, and the replies of those that went last.
 
-ghost use Rattle.std.specs.Prelude.{◌≡◌, ◌≤◌, [], true, false, length, replicate, IfOk, OnOk, OnErr};
+ghost use Rattle.std.specs.Prelude.{◌≡◌, ◌+◌, ◌<◌, ◌≤◌, [], true, false, length, IfOk, OnOk, OnErr, Some};
+ghost use Rattle.std.specs.Prelude.{slice_get, sum_by, replicate, vec_capacity};
 ghost use Rattle.gc_graph.specs.Lawful.{IsAllowedOrder};
 ghost use Rattle.cross_thread_region.specs.Calls.{free_history};
 ghost use Rattle.thread_queues.specs.Queues.{no_orders, with_order, threads_in, queues_left};
-ghost use Rattle.thread_queues.specs.Going.{HasSeenAll, HaveGone};
+ghost use Rattle.thread_queues.specs.Queues.{orders_of, replies_of};
+ghost use Rattle.thread_queues.specs.Going.{AreOut, IsFirst, HaveGone};
+ghost use Rattle.thread_queues.specs.Orders.{HasOut};
 
 use crate::going::go_all;
 use crate::queue::Queue;
@@ -21,26 +24,20 @@ const THREADS: u32 = 8;
 #[derive(Drop)]
 pub struct ThreadQueues {
     queues: Vec<Queue>,
-    /// How many orders the queues have together.
-    orders: usize,
+    passes: Vec<Pass>,
     awaiting: bool,
-    replies: Vec<Line>,
 }
 
 impl Model for ThreadQueues {
-    ghost use Rattle.std.specs.Prelude.{[], if◌then◌else◌, vec_capacity};
-    ghost use Rattle.thread_queues.specs.Queues.{QueuesView, QueuesHaveRoom, threads_in};
+    ghost use Rattle.std.specs.Prelude.{vec_capacity};
+    ghost use Rattle.thread_queues.specs.Queues.{QueuesView, QueuesHaveRoom, view_of};
 
     ghost Value = { QueuesView };
 
-    ghost view = { λ q. record {
-      queues = q.queues.items;
-      running = if q.awaiting then threads_in q.queues.items else [];
-      awaiting = q.awaiting;
-      replies = q.replies.items;
-    } };
+    ghost view = { λ q. view_of q.queues.items q.awaiting q.passes.items };
 
-    ghost invariant = { λ q. QueuesHaveRoom q.queues.items q.orders (vec_capacity q.replies) };
+    ghost invariant = { λ q.
+        QueuesHaveRoom q.queues.items q.awaiting q.passes.items (vec_capacity q.passes) };
 }
 
 impl ThreadQueues {
@@ -50,9 +47,8 @@ impl ThreadQueues {
     {
         Ok(ThreadQueues {
             queues: empty_queues(alloc)?,
-            orders: 0,
+            passes: Vec::with_capacity(alloc, THREADS as usize)?,
             awaiting: false,
-            replies: Vec::new(alloc),
         })
     }
 
@@ -64,57 +60,88 @@ impl ThreadQueues {
         requires joined { self.old.awaiting ≡ false }
         ensures queued { OnOk result (self.new
             ≡ record self.old { queues = with_order self.old.queues thread order }) }
+        ensures counted { OnOk result (sum_by length self.new.queues
+            ≡ sum_by length self.old.queues + 1) }
         ensures refused { OnErr result (self.new ≡ self.old) }
     {
-        // The room for its reply is taken now, so that threads that go need none.
-        self.replies.reserve(self.orders + 1)?;
         let queue = &mut self.queues[(thread - 1) as usize];
         queue.push(order)?;
-        self.orders += 1;
         Ok(())
     }
 
-    /// The threads whose queues aren't empty do their orders, and a join is awaited. Answers how many
-    /// they are.
+    /// The threads whose queues aren't empty do their orders, each with a pass of its own, which stays
+    /// out, and a join is awaited. Answers how many they are.
     pub fn go(&mut self, region: &mut Region, pass: &mut Pass, totals: Totals) -> u32
         requires joined { self.old.awaiting ≡ false }
-        requires pass { HasSeenAll region.old pass.old 0 }
+        requires first { IsFirst region.old pass.old }
+        requires alone { pass.old.out ≡ [] }
         ensures queues { self.new.queues ≡ self.old.queues }
         ensures running { self.new.running ≡ threads_in self.old.queues }
         ensures awaiting { self.new.awaiting ≡ true }
         ensures count { result ≡ length self.new.running }
         ensures went { HaveGone self.old.queues totals (free_history region.old)
             (free_history region.new) self.new.replies }
-        ensures pass { HasSeenAll region.new pass.new 0 }
+        ensures few { length self.new.replies ≤ sum_by length self.old.queues }
+        ensures few_entries { length (free_history region.new)
+            ≤ length (free_history region.old) + sum_by length self.old.queues }
+        ensures pass { pass.new ≡ record pass.old { out = pass.new.out } }
+        ensures first { IsFirst region.new pass.new }
+        ensures outs { AreOut region.new pass.new self.new }
     {
-        self.replies.clear();
-        go_all(&self.queues, region, pass, totals, &mut self.replies);
+        go_all(&mut self.queues, &mut self.passes, region, pass, totals);
         self.awaiting = true;
         count_threads(&self.queues)
     }
 
-    /// The threads that went are joined, and their queues are empty. Answers how many they were.
-    pub fn join(&mut self) -> u32
+    /// The threads that went are joined, and their queues are empty. The first pass has then seen the
+    /// whole history, and no other one is out. Answers how many threads they were.
+    pub fn join(&mut self, region: &Region, pass: &mut Pass) -> u32
         requires awaited { self.old.awaiting ≡ true }
+        requires first { IsFirst region.now pass.old }
+        requires outs { AreOut region.now pass.old self.old }
         ensures count { result ≡ length self.old.running }
         ensures joined { self.new ≡ record self.old {
           queues = queues_left self.old.queues self.old.running;
           running = [];
           awaiting = false;
+          passes = [];
         } }
+        ensures left { sum_by length self.new.queues ≡ 0 }
+        ensures pass { pass.new ≡ record pass.old { seen = free_history region.now; out = [] } }
+        ensures first { IsFirst region.now pass.new }
     {
         let count = count_threads(&self.queues);
+        join_all(&mut self.passes, region, pass);
         clear_queues(&mut self.queues);
-        self.orders = 0;
         self.awaiting = false;
         count
     }
 
-    /// What the orders of the threads that went last were answered, thread after thread.
-    pub fn replies(&self) -> &[Line]
-        ensures { result.now ≡ self.now.replies }
+    /// How many orders of the threads that went last were answered.
+    pub fn reply_count(&self) -> u64
+        ensures { result ≡ length self.now.replies }
     {
-        &self.replies
+        let mut count = 0;
+        for i in 0..self.queues.len() {
+            count += self.queues[i].replies().len() as u64;
+        }
+        count
+    }
+
+    /// What one of these orders was answered, thread after thread.
+    pub fn reply(&self, index: u64) -> Line
+        requires { index < length self.now.replies }
+        ensures { slice_get self.now.replies index ≡ Some result }
+    {
+        let mut left = index;
+        for i in 0..self.queues.len() {
+            let replies = self.queues[i].replies();
+            if left < replies.len() as u64 {
+                return replies[left as usize];
+            }
+            left -= replies.len() as u64;
+        }
+        unreachable!()
     }
 
     /// Whether a join is awaited.
@@ -123,10 +150,18 @@ impl ThreadQueues {
     {
         self.awaiting
     }
+
+    /// Only threads that went run. Whoever calls this has the law.
+    pub fn none_run_before_they_go(&self)
+        ensures { self.now.awaiting ≡ false → self.now.running ≡ [] }
+    {
+        let _ = &self.awaiting;
+    }
 }
 
 fn empty_queues(alloc: Global) -> Result<Vec<Queue>, NoMemory>
-    ensures { IfOk result (λ queues. queues.items ≡ replicate 8 []) }
+    ensures { IfOk result (λ queues. queues.items
+        ≡ replicate 8 (record { orders = []; replies = [] })) }
 {
     let mut queues = Vec::with_capacity(alloc, THREADS as usize)?;
     for _thread in 0..THREADS {
@@ -138,20 +173,36 @@ fn empty_queues(alloc: Global) -> Result<Vec<Queue>, NoMemory>
 /// How many queues aren't empty.
 fn count_threads(queues: &Vec<Queue>) -> u32
     requires { length queues.now.items ≡ 8 }
-    ensures { result ≡ length (threads_in queues.now.items) }
+    ensures { result ≡ length (threads_in (orders_of queues.now.items)) }
 {
     let mut count = 0;
     for i in 0..THREADS {
-        if !queues[i as usize].orders().is_empty() {
+        if !queues[i as usize].is_empty() {
             count += 1;
         }
     }
     count
 }
 
+/// Joins the passes, the last one first.
+fn join_all(passes: &mut Vec<Pass>, region: &Region, pass: &mut Pass)
+    requires first { IsFirst region.now pass.old }
+    requires out { HasOut region.now pass.old passes.old.items }
+    ensures none { passes.new.items ≡ [] }
+    ensures pass { pass.new ≡ record pass.old { seen = free_history region.now; out = [] } }
+    ensures first { IsFirst region.now pass.new }
+    ensures room { vec_capacity passes.new ≡ vec_capacity passes.old }
+{
+    while let Some(own) = passes.pop() {
+        region.join_pass(pass, own);
+    }
+}
+
+/// No order waits, and the replies stay to be told.
 fn clear_queues(queues: &mut Vec<Queue>)
     requires { length queues.old.items ≡ 8 }
-    ensures { queues.new.items ≡ replicate 8 [] }
+    ensures orders { orders_of queues.new.items ≡ replicate 8 [] }
+    ensures replies { replies_of queues.new.items ≡ replies_of queues.old.items }
 {
     for i in 0..queues.len() {
         let queue = &mut queues[i];

@@ -1,54 +1,69 @@
-use Rattle.std.proofs.Common.{rules, ◌≡◌, ◌+◌, ◌<◌, List, [], All, length, get_or, vec_len, sym, ap, ◌∙◌, subst, arith}
-use Rattle.std.proofs.lemmas.List.{get_or_default}
+use Rattle.std.proofs.Common.{rules, ◌≡◌, ◌+◌, ◌<◌, List, All, Contains, length, take, refl, sym, ap, ◌∙◌, subst, arith}
+use Rattle.std.proofs.lemmas.List.{take_all}
+use Rattle.std.proofs.lemmas.List.Elements.{All-nil}
 use Rattle.gc_graph.specs.declared.command.Order.{Order}
-use Rattle.gc_graph.specs.Lawful.{IsAllowedOrder}
-use Rattle.cross_thread_region.specs.Calls.{free_history}
+use Rattle.cross_thread_region.specs.Calls.{PassView, free_history}
+use Rattle.thread_queues.specs.Queues.{QueueView, orders_of, replies_of, threads_in, queue_in}
 use Rattle.thread_queues.specs.Orders.{ThreadDone}
-use Rattle.thread_queues.proofs.Threads.{next_queue}
-use Rattle.thread_queues.proofs.Through.{gone_none, gone_next, gone_all, room_next}
+use Rattle.thread_queues.proofs.Held.{queue_at, orders_stay, replies_next}
+use Rattle.thread_queues.proofs.Passes.{none_out, out_alone}
+use Rattle.thread_queues.proofs.Threads.{running_next}
+use Rattle.thread_queues.proofs.Through.{HaveGoneTo, gone_none, gone_next, gone_all}
 use Rattle.thread_queues.proofs.going.go_all.Goals as goal
 
 pub loop-i-init : goal.loop-i-init
-loop-i-init c = let none : vec_len c.args.replies.now ≡ 0 = search rules in record {
-  gone = gone_none _ _ _ _ c.requires.none;
-  pass = c.requires.pass;
-  room = search rules;
-  left = omega (arith, none, c.requires.room);
+loop-i-init c = record {
+  gone = gone_none _ _ _ _ refl;
+  orders = refl;
+  eight = c.requires.eight;
+  pass = refl;
+  first = c.requires.first;
+  outs = none_out _ _ _ c.requires.alone c.requires.none;
+  running =
+      subst (All (Contains (threads_in (orders_of c.args.queues.now.items)))) (sym c.requires.alone)
+      (All-nil (Contains (threads_in (orders_of c.args.queues.now.items))));
+  room = refl;
   end = search rules;
 }
 
-pub go-requires : goal.go-requires
-go-requires c =
-    let inside : c.loop-i.i < length c.args.queues.now.items = omega (arith, c.loop-i-test.true, c.loop-i.invariant.end, c.requires.eight) in
-    let same : c.orders.result.now ≡ get_or c.args.queues.now.items c.loop-i.i [] =
-    c.orders.ensures.orders ∙ c.index.ensures ∙ get_or_default c.args.queues.now.items c.loop-i.i c.index.result.now [] inside in
-    record {
-      first = omega arith;
-      last = omega (arith, inside, c.requires.eight);
-      allowed = subst (All IsAllowedOrder) (sym c.orders.ensures.orders) c.orders.ensures.allowed;
-      pass = c.loop-i.invariant.pass;
-      room = omega (arith, ap length same, room_next c.args.queues.now.items c.loop-i.i inside, c.loop-i.invariant.left);
-    }
-
 pub loop-i-preserved : goal.loop-i-preserved
 loop-i-preserved c =
-    let inside : c.loop-i.i < length c.args.queues.now.items = omega (arith, c.loop-i-test.true, c.loop-i.invariant.end, c.requires.eight) in
-    let same : c.orders.result.now ≡ get_or c.args.queues.now.items c.loop-i.i [] =
-    c.orders.ensures.orders ∙ c.index.ensures ∙ get_or_default c.args.queues.now.items c.loop-i.i c.index.result.now [] inside in
+    let inside : c.loop-i.i < 8 = search rules in
+    let low : c.loop-i.i < length c.loop-i.queues.items = search rules in
+    let queue : queue_in (orders_of c.args.queues.now.items) (c.loop-i.i + 1) ≡ c.index_mut-queue.result.now.orders =
+    queue_at c.args.queues.now.items c.loop-i.queues.items c.loop-i.i c.index_mut-queue.result.now c.loop-i.invariant.orders low c.index_mut-queue.ensures.value in
     record {
       gone =
-          gone_next _ _ _ _ _ _ _ _ (omega (arith, inside, c.requires.eight)) c.loop-i.invariant.gone
-          (subst (λ (orders : List Order). ThreadDone (c.loop-i.i + 1) orders c.args.totals (free_history c.loop-i.region) (free_history c.go.new.region) c.loop-i.replies.items c.go.new.replies.items)
-          (same ∙ sym (next_queue c.args.queues.now.items c.loop-i.i)) c.go.ensures.done);
-      pass = c.go.ensures.pass;
-      room = c.go.ensures.room ∙ c.loop-i.invariant.room;
-      left = omega (arith, ap length same, room_next c.args.queues.now.items c.loop-i.i inside, c.loop-i.invariant.left, c.go.ensures.len, c.go.ensures.room);
+          gone_next _ c.loop-i.i c.args.totals (free_history c.args.region.now) (free_history c.loop-i.region) (free_history c.go.new.region) _ _ _ inside
+          c.loop-i.invariant.gone
+          (subst
+          (λ (orders : List Order). ThreadDone (c.loop-i.i + 1) orders c.args.totals (free_history c.loop-i.region) (free_history c.go.new.region) c.go.new.queue.replies)
+          (sym queue) c.go.ensures.done)
+          (replies_next c.loop-i.queues.items c.loop-i.i c.go.new.queue low);
+      orders =
+          orders_stay c.loop-i.queues.items c.loop-i.i c.index_mut-queue.result.now c.go.new.queue c.index_mut-queue.ensures.value c.go.ensures.orders
+          ∙ c.loop-i.invariant.orders;
+      eight = search rules;
+      pass =
+          out_alone c.go.new.pass c.args.pass.now
+          (ap (λ (p : PassView). p.number) c.go.ensures.pass ∙ ap (λ (p : PassView). p.number) c.loop-i.invariant.pass)
+          (ap (λ (p : PassView). p.seen) c.go.ensures.pass ∙ ap (λ (p : PassView). p.seen) c.loop-i.invariant.pass);
+      first = c.go.ensures.first;
+      outs = c.go.ensures.outs;
+      running =
+          subst (All (Contains (threads_in (orders_of c.args.queues.now.items)))) (sym (ap (λ (p : PassView). p.out) c.go.ensures.pass))
+          (running_next _ c.loop-i.i _ c.loop-i.pass.out inside queue c.loop-i.invariant.running);
+      room = search rules;
       end = c.loop-i.invariant.end;
     }
 
-pub returns : goal.returns
-returns c = record {
-  went = gone_all _ _ _ _ _ _ c.loop-i.invariant.gone (omega (arith, c.loop-i-test.false, c.loop-i.auto.i-end, c.loop-i.invariant.end));
-  pass = c.loop-i.invariant.pass;
-  room = c.loop-i.invariant.room;
-}
+pub returns-clause-went : goal.returns-clause-went
+returns-clause-went c =
+    let end : c.loop-i.i ≡ 8 = search rules in
+    let all : take c.loop-i.i c.loop-i.queues.items ≡ c.loop-i.queues.items =
+    take_all c.loop-i.i c.loop-i.queues.items (omega (arith, end, c.loop-i.invariant.eight)) in
+    gone_all _ c.loop-i.i _ _ _ _
+    (subst
+    (λ (queues : List QueueView). HaveGoneTo (orders_of c.args.queues.now.items) c.loop-i.i c.args.totals (free_history c.args.region.now) (free_history c.loop-i.region) (replies_of queues))
+    all c.loop-i.invariant.gone)
+    end

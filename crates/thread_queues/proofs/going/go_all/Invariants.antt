@@ -1,15 +1,20 @@
-use Rattle.std.proofs.Common.{◌≡◌, ◌+◌, ◌≤◌, length, drop, vec_len, vec_capacity}
-use Rattle.std.specs.List.{sum_by}
+use Rattle.std.proofs.Common.{◌≡◌, ◌+◌, All, Contains, length, take, vec_capacity}
 use Rattle.cross_thread_region.specs.Calls.{free_history}
-use Rattle.thread_queues.specs.Going.{HasSeenAll}
+use Rattle.thread_queues.specs.Queues.{orders_of, replies_of, threads_in}
+use Rattle.thread_queues.specs.Going.{IsFirst}
+use Rattle.thread_queues.specs.Orders.{HasOutBelow}
 use Rattle.thread_queues.proofs.Through.{HaveGoneTo}
 use Rattle.thread_queues.proofs.going.go_all.Given as goal
 
 abbrev pub invariant-loop-i : goal.invariant-loop-i
 invariant-loop-i l = record {
-  gone : HaveGoneTo l.queues.items l.i l.totals (free_history l.fn.region) (free_history l.region) l.replies.items;
-  pass : HasSeenAll l.region l.pass 0;
-  room : vec_capacity l.replies ≡ vec_capacity l.fn.replies;
-  left : vec_len l.replies + sum_by length (drop l.i l.queues.items) ≤ vec_capacity l.replies;
+  gone : HaveGoneTo (orders_of l.fn.queues.items) l.i l.totals (free_history l.fn.region) (free_history l.region) (replies_of (take l.i l.queues.items));
+  orders : orders_of l.queues.items ≡ orders_of l.fn.queues.items;
+  eight : length l.queues.items ≡ 8;
+  pass : l.pass ≡ record l.fn.pass { out = l.pass.out };
+  first : IsFirst l.region l.pass;
+  outs : HasOutBelow l.region l.pass l.passes.items (l.i + 1);
+  running : All (Contains (threads_in (orders_of l.fn.queues.items))) l.pass.out;
+  room : vec_capacity l.passes ≡ vec_capacity l.fn.passes;
   end : l.i-end ≡ 8;
 }
