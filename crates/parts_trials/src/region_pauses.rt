@@ -1,7 +1,7 @@
 // A start, and the pause after it.
 
 ghost use Rattle.std.specs.Prelude.{◌≡◌, ◌==◌, true, None};
-ghost use Rattle.cross_thread_region.specs.Calls.{Begins, IsPassReady, StaysReady, free_history};
+ghost use Rattle.cross_thread_region.specs.Calls.{Continues, IsPassReady, free_history};
 ghost use Rattle.cross_thread_region.specs.Histories.{is_started};
 
 use cross_thread_region::{HeldRegion, Pass, Region};
@@ -13,7 +13,9 @@ fn fill(region: &mut Region, pass: &mut Pass)
     requires ready { IsPassReady region.old pass.old }
     requires first { pass.old.number ≡ 0 }
     requires slots { region.old.slots ≡ 32 }
-    ensures { StaysReady region.old pass.old region.new pass.new }
+    ensures ready { IsPassReady region.new pass.new }
+    ensures first { pass.new.number ≡ 0 }
+    ensures slots { region.new.slots ≡ 32 }
 {
     region.export(pass, 0, 3, 30);
     region.copy(pass, 0, 1);
@@ -38,7 +40,7 @@ fn shows_places(held: &HeldRegion) -> bool {
 /// Ends a pause in which the object with this place is dead.
 fn end_without(region: &mut Region, pass: &mut Pass, held: HeldRegion, gone: u32) -> u32
     requires held { region.old.inside ≡ None }
-    requires pass { Begins pass.old.seen held }
+    requires found { Continues pass.old held }
     requires first { pass.old.number ≡ 0 }
     ensures ready { IsPassReady region.new pass.new }
     ensures slots { region.new.slots ≡ region.old.slots }

@@ -1,7 +1,7 @@
 // The places that entries read from weak slots.
 
 ghost use Rattle.std.specs.Prelude.{◌≡◌, ◌<◌};
-ghost use Rattle.cross_thread_region.specs.Calls.{IsPassReady, StaysReady};
+ghost use Rattle.cross_thread_region.specs.Calls.{IsPassReady};
 
 use cross_thread_region::{Pass, Region};
 use std::alloc::Global;
@@ -12,7 +12,9 @@ fn fill(region: &mut Region, pass: &mut Pass)
     requires ready { IsPassReady region.old pass.old }
     requires first { pass.old.number ≡ 0 }
     requires slots { region.old.slots ≡ 32 }
-    ensures { StaysReady region.old pass.old region.new pass.new }
+    ensures ready { IsPassReady region.new pass.new }
+    ensures first { pass.new.number ≡ 0 }
+    ensures slots { region.new.slots ≡ 32 }
 {
     region.export(pass, 0, 3, 30);
     region.copy(pass, 0, 1);

@@ -14,7 +14,9 @@ fn fill(region: &mut Region, pass: &mut Pass)
     requires ready { IsPassReady region.old pass.old }
     requires first { pass.old.number ≡ 0 }
     requires slots { region.old.slots ≡ 32 }
-    ensures { StaysReady region.old pass.old region.new pass.new }
+    ensures ready { IsPassReady region.new pass.new }
+    ensures first { pass.new.number ≡ 0 }
+    ensures slots { region.new.slots ≡ 32 }
 {
     region.export(pass, 0, 3, 30);
     region.export(pass, 0, 7, 70);

@@ -1,7 +1,7 @@
 // What the threads of a script are answered.
 
-ghost use Rattle.std.specs.Prelude.{◌≡◌, IfOk, OnOk, false, true};
-ghost use Rattle.thread_queues.specs.Going.{HasSeenAll};
+ghost use Rattle.std.specs.Prelude.{◌≡◌, IfOk, OnOk, [], false, true};
+ghost use Rattle.thread_queues.specs.Going.{IsFirst};
 
 use cross_thread_region::{Pass, Region};
 use gc_graph::{Entry, Line, NoMemory, Op, Order, Reply};
@@ -37,7 +37,8 @@ const ALL: &str = "\
 
 /// A region whose slot 0 is strong for node 3, with its first pass, and queues without orders.
 fn made(alloc: Global) -> Result<(Region, Pass, ThreadQueues), NoMemory>
-    ensures pass { IfOk result (λ made. HasSeenAll made.0 made.1 0) }
+    ensures first { IfOk result (λ made. IsFirst made.0 made.1) }
+    ensures alone { IfOk result (λ made. made.1.out ≡ []) }
     ensures joined { IfOk result (λ made. made.2.awaiting ≡ false) }
 {
     let (mut region, mut pass) = Region::new(alloc, 32)?;
@@ -64,11 +65,11 @@ fn queue_for_all(queues: &mut ThreadQueues) -> Result<(), NoMemory>
 
 /// Whether the replies are those of the lines. A line has a thread and its reply, or the totals that
 /// it was told.
-fn are_told(replies: &[Line], wanted: &str) -> bool {
+fn are_told(queues: &ThreadQueues, wanted: &str) -> bool {
     let mut lines = wanted.lines();
-    for reply in replies {
+    for i in 0..queues.reply_count() {
         match lines.next() {
-            Some(line) if is_told(*reply, line) => {}
+            Some(line) if is_told(queues.reply(i), line) => {}
             _ => return false,
         }
     }
@@ -110,7 +111,7 @@ fn number_at(line: &str, place: usize) -> u64 {
 
 /// Whether entry 6 is that of thread 4, which cleared slot 0 after the export and five others.
 fn fourth_cleared(region: &Region, pass: &mut Pass) -> bool
-    requires { HasSeenAll region.now pass.old 0 }
+    requires { IsFirst region.now pass.old }
 {
     region.entries(pass) == 9
         && matches!(
@@ -124,16 +125,17 @@ fn fourth_cleared(region: &Region, pass: &mut Pass) -> bool
 }
 
 fn answers_all(region: &mut Region, pass: &mut Pass, queues: &mut ThreadQueues) -> bool
-    requires pass { HasSeenAll region.old pass.old 0 }
+    requires first { IsFirst region.old pass.old }
+    requires alone { pass.old.out ≡ [] }
     requires joined { queues.old.awaiting ≡ false }
 {
     if queue_for_all(queues).is_err() {
         return false;
     }
     let went = queues.go(region, pass, EARLY);
-    let told = are_told(queues.replies(), ALL);
-    let entered = fourth_cleared(region, pass);
-    went == 8 && told && entered && queues.join() == 8
+    let told = are_told(queues, ALL);
+    let joined = queues.join(region, pass) == 8;
+    went == 8 && told && joined && fourth_cleared(region, pass)
 }
 
 fn all_are_answered(alloc: Global) -> bool {
@@ -152,17 +154,19 @@ fn threads_are_answered_one_after_the_other(rt: HostRuntime) {
 
 /// A section of threads 2 and 5.
 fn two_go(region: &mut Region, pass: &mut Pass, queues: &mut ThreadQueues) -> Result<bool, NoMemory>
-    requires pass { HasSeenAll region.old pass.old 0 }
+    requires first { IsFirst region.old pass.old }
+    requires alone { pass.old.out ≡ [] }
     requires joined { queues.old.awaiting ≡ false }
-    ensures pass { HasSeenAll region.new pass.new 0 }
+    ensures first { IsFirst region.new pass.new }
+    ensures alone { pass.new.out ≡ [] }
     ensures joined { OnOk result (queues.new.awaiting ≡ false) }
 {
     queues.queue(5, Order::Clear { slot: 0 })?;
     queues.queue(2, Order::Totals)?;
     let two = queues.go(region, pass, EARLY) == 2;
-    let told = are_told(queues.replies(), "2 totals 12 3 9 2\n5 done\n");
+    let told = are_told(queues, "2 totals 12 3 9 2\n5 done\n");
     let awaits = queues.awaits();
-    let joined = queues.join() == 2;
+    let joined = queues.join(region, pass) == 2;
     Ok(two && told && awaits && joined)
 }
 
@@ -172,32 +176,36 @@ fn one_goes(
     pass: &mut Pass,
     queues: &mut ThreadQueues,
 ) -> Result<bool, NoMemory>
-    requires pass { HasSeenAll region.old pass.old 0 }
+    requires first { IsFirst region.old pass.old }
+    requires alone { pass.old.out ≡ [] }
     requires joined { queues.old.awaiting ≡ false }
-    ensures pass { HasSeenAll region.new pass.new 0 }
+    ensures first { IsFirst region.new pass.new }
+    ensures alone { pass.new.out ≡ [] }
     ensures joined { OnOk result (queues.new.awaiting ≡ false) }
 {
     queues.queue(2, Order::Upgrade { from: 0, into: 1 })?;
     queues.queue(2, Order::Totals)?;
     let one = queues.go(region, pass, LATE) == 1;
-    let told = are_told(queues.replies(), "2 null\n2 totals 20 1 4 4\n");
-    let joined = queues.join() == 1;
+    let told = are_told(queues, "2 null\n2 totals 20 1 4 4\n");
+    let joined = queues.join(region, pass) == 1;
     Ok(one && told && joined)
 }
 
 /// And one of none.
 fn none_goes(region: &mut Region, pass: &mut Pass, queues: &mut ThreadQueues) -> bool
-    requires pass { HasSeenAll region.old pass.old 0 }
+    requires first { IsFirst region.old pass.old }
+    requires alone { pass.old.out ≡ [] }
     requires joined { queues.old.awaiting ≡ false }
 {
     let none = queues.go(region, pass, LATE) == 0;
-    let silent = queues.replies().is_empty();
-    let still = queues.join() == 0;
+    let silent = queues.reply_count() == 0;
+    let still = queues.join(region, pass) == 0;
     none && silent && still && !queues.awaits()
 }
 
 fn go_in_turn(region: &mut Region, pass: &mut Pass, queues: &mut ThreadQueues) -> bool
-    requires pass { HasSeenAll region.old pass.old 0 }
+    requires first { IsFirst region.old pass.old }
+    requires alone { pass.old.out ≡ [] }
     requires joined { queues.old.awaiting ≡ false }
 {
     matches!(two_go(region, pass, queues), Ok(true))
