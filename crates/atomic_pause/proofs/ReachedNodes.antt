@@ -7,13 +7,13 @@ use Rattle.std.proofs.lemmas.List.Elements.{All-contains}
 use mathlib.Core.Logic.{◌⊎◌}
 use Rattle.gc_graph.specs.Graph.{Object, IsIn, IsClosed}
 use Rattle.gc_graph.specs.Reach.{Reach, IsLeastClosed, ReachIsLeast}
-use Rattle.gc_graph.specs.State.{Setup, Node, node_at, size_of, graph_of, slot_targets, is_there, IsLive}
+use Rattle.gc_graph.specs.State.{Setup, Node, node_at, size_of, graph_of, slot_targets, strong_region_targets, is_there, IsLive}
 use Rattle.gc_graph.specs.May.{members, has_word}
 use Rattle.gc_graph.specs.NodeNumbers.{there_below}
 use Rattle.gc_graph.specs.Members.{any_member, any_from, below_ranged, holds_from, in_from_holds}
 use Rattle.gc_graph.specs.Valid.{region_targets}
 use Rattle.cross_thread_region.specs.declared.chronicle.PlacedEntry.{PlacedEntry}
-use Rattle.cross_thread_region.specs.Calls.{RegionView, PassView, free_history}
+use Rattle.cross_thread_region.specs.Calls.{PassView}
 use Rattle.cross_thread_region.specs.Histories.{slots_of}
 use Rattle.cross_thread_region.specs.PlacedNodes.{strong_target_is_target, strong_target_placed, strong_place_named}
 use Rattle.marker_core.specs.declared.states.Body.{Body}
@@ -30,8 +30,9 @@ use Rattle.prefinalizer_effects.specs.NodeLives.{live_if_there, none_dead}
 use Rattle.prefinalizer_effects.specs.ClosedPlaces.{reached_place, reached_from, reached_some, kept_closed, places_closed}
 use Rattle.prefinalizer_effects.specs.KeptNodes.{kept_parts, kept_from, kept_low, slot_of_root, slot_node_place, slot_node_live, refers_within}
 use Rattle.atomic_pause.specs.Marking.{HoldsRoots, IsHitPlace, IsScanned, IsSharedPlace, IsOtherRoot, MarksReachable}
-use Rattle.atomic_pause.specs.Pausing.{NamePlaces, IsMayWithin, IsKeptBetween, IsPausable, hits_at, hits_in, shared_roots}
+use Rattle.atomic_pause.specs.Pausing.{NamePlaces, IsMayWithin, IsKeptBetween, found_before, hits_at, hits_in, shared_roots}
 use Rattle.atomic_pause.specs.MembersOf.{member_among, among_member, member_below}
+use Rattle.atomic_pause.proofs.RegionPaused.{NamesLive}
 
 -- ---- the roots
 
@@ -61,17 +62,17 @@ body_word nodes n a there low high =
     and_from _ _ there (and_from _ _ (le-leb (place_of nodes n) a low) (lt-ltb a (place_of nodes n + size_of (node_at nodes n)) high))
 
 -- the nodes that strong slots of the region name and those that the stack hits
-abbrev pub other_roots : List Node → RegionView → Bool → List ℕ → List ℕ
-other_roots nodes region precise stack = shared_roots region ++ hits_in precise nodes stack
+abbrev pub other_roots : List Node → PassView → Bool → List ℕ → List ℕ
+other_roots nodes passed precise stack = shared_roots passed ++ hits_in precise nodes stack
 
 -- the first roots, the nodes that strong slots of the region name and those that the stack hits
-abbrev pub roots_with : List ℕ → List Node → RegionView → Bool → List ℕ → List ℕ
-roots_with first nodes region precise stack = first ++ shared_roots region ++ hits_in precise nodes stack
+abbrev pub roots_with : List ℕ → List Node → PassView → Bool → List ℕ → List ℕ
+roots_with first nodes passed precise stack = first ++ shared_roots passed ++ hits_in precise nodes stack
 
 -- they are the first ones and the others
-pub roots_with_others : (first : List ℕ) (nodes : List Node) (region : RegionView) (precise : Bool) (stack : List ℕ)
-    → first ++ other_roots nodes region precise stack ≡ roots_with first nodes region precise stack
-roots_with_others first nodes region precise stack = sym (append_assoc first (shared_roots region) (hits_in precise nodes stack))
+pub roots_with_others : (first : List ℕ) (nodes : List Node) (passed : PassView) (precise : Bool) (stack : List ℕ)
+    → first ++ other_roots nodes passed precise stack ≡ roots_with first nodes passed precise stack
+roots_with_others first nodes passed precise stack = sym (append_assoc first (shared_roots passed) (hits_in precise nodes stack))
 
 -- ---- what was marked
 
@@ -119,14 +120,15 @@ either_at nodes xs ys x y first second = record {
 }
 
 -- what the region's strong slots name
-shared_at : (nodes : List Node) (region : RegionView) (pass : PassView) → IsPausable nodes region pass → AreRootsAt nodes (shared_roots region) (IsSharedPlace (free_history region))
-shared_at nodes region pass may = record {
-  live = λ n is. All-contains (IsLive nodes) (region_targets (slots_of (free_history region))) n may.live
-      (strong_target_is_target (slots_of (free_history region)) n (in_from_holds (shared_roots region) n is));
-  placed = λ n is. strong_target_placed (place_of nodes) (free_history region) n may.placed (in_from_holds (shared_roots region) n is);
+shared_at : (nodes : List Node) (history : List PlacedEntry) → NamesLive nodes history
+    → AreRootsAt nodes (strong_region_targets (slots_of history)) (IsSharedPlace history)
+shared_at nodes history names = record {
+  live = λ n is. All-contains (IsLive nodes) (region_targets (slots_of history)) n names.live
+      (strong_target_is_target (slots_of history) n (in_from_holds (strong_region_targets (slots_of history)) n is));
+  placed = λ n is. strong_target_placed (place_of nodes) history n names.placed (in_from_holds (strong_region_targets (slots_of history)) n is);
   named = λ p is.
-      let w = strong_place_named (place_of nodes) (free_history region) is.0 p may.placed is.1 in
-      (w.0, holds_from (shared_roots region) w.0 w.1, w.2);
+      let w = strong_place_named (place_of nodes) history is.0 p names.placed is.1 in
+      (w.0, holds_from (strong_region_targets (slots_of history)) w.0 w.1, w.2);
 }
 
 -- what the stack hits
@@ -145,14 +147,14 @@ scanned_at nodes false stack v same none held = record {
   named = λ p is. hit_named nodes v stack p same is.1;
 }
 
--- what the pause finds beside what the owner's slots name; a pause holds the history
-pub others_at : (nodes : List Node) (region : RegionView) (pass : PassView) (history : List PlacedEntry) (precise : Bool) (stack : List ℕ) (v : SeatView)
-    → IsPausable nodes region pass → history ≡ free_history region → v.dead ≡ [] → IsHeld nodes v
-    → AreRootsAt nodes (other_roots nodes region precise stack) (IsOtherRoot history precise v.bodies stack)
-others_at nodes region pass history precise stack v may same none held =
-    subst (λ h. AreRootsAt nodes (other_roots nodes region precise stack) (IsOtherRoot h precise v.bodies stack)) (sym same)
-    (either_at nodes (shared_roots region) (hits_in precise nodes stack) (IsSharedPlace (free_history region)) (IsScanned precise v.bodies stack)
-    (shared_at nodes region pass may) (scanned_at nodes precise stack v held.bodies none held))
+-- what the pause finds beside what the owner's slots name, where the pass (passed) has seen the history before the pause's entry
+pub others_at : (nodes : List Node) (passed : PassView) (history : List PlacedEntry) (precise : Bool) (stack : List ℕ) (v : SeatView)
+    → NamesLive nodes history → found_before passed ≡ history → v.dead ≡ [] → IsHeld nodes v
+    → AreRootsAt nodes (other_roots nodes passed precise stack) (IsOtherRoot history precise v.bodies stack)
+others_at nodes passed history precise stack v names same none held =
+    subst (λ h. AreRootsAt nodes (strong_region_targets (slots_of h) ++ hits_in precise nodes stack) (IsOtherRoot history precise v.bodies stack)) (sym same)
+    (either_at nodes (strong_region_targets (slots_of history)) (hits_in precise nodes stack) (IsSharedPlace history) (IsScanned precise v.bodies stack)
+    (shared_at nodes history names) (scanned_at nodes precise stack v held.bodies none held))
 
 -- with the slots and the others for roots
 pub has_marked : (setup : Setup) (nodes : List Node) (slots places : List (Option ℕ)) (may : List Bool) (others : List ℕ) (other : ℕ → Type 0) (v new : SeatView)

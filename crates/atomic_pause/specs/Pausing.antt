@@ -1,5 +1,5 @@
 -- What a pause does to the nodes: which it keeps, which it condemns, and what their prefinalizers do.
-use Rattle.std.specs.Prelude.{◌≡◌, ◌⊎◌, ℕ, ◌<◌, Bool, true, false, List, [], length, filter, Option}
+use Rattle.std.specs.Prelude.{◌≡◌, ◌≢◌, ◌⊎◌, ℕ, ◌-◌, ◌<◌, ◌++◌, Bool, true, false, List, [], length, filter, take, All, Contains, Option}
 use Rattle.std.specs.List.{list_any, range_with_len}
 use Rattle.gc_graph.specs.declared.action.ActionKind.{ActionKind}
 use Rattle.gc_graph.specs.Graph.{has, IsClosed, IsWithin}
@@ -9,10 +9,12 @@ use Rattle.gc_graph.specs.State.{Node, node_at, graph_of, slot_targets, strong_r
 use Rattle.gc_graph.specs.May.{has_word}
 use Rattle.gc_graph.specs.Valid.{AreLive, region_targets}
 use Rattle.gc_graph.specs.Pause.{condemn, dying_slots, run_order, prefinalised}
-use Rattle.gc_graph.specs.History.{NamesWeakSlots}
+use Rattle.gc_graph.specs.History.{IsLegal, NamesWeakSlots}
+use Rattle.gc_graph.specs.Outcomes.{IsThreadOp}
 use Rattle.gc_graph.specs.ActionLaw.{HaveStayed}
 use Rattle.cross_thread_region.specs.Calls.{RegionView, PassView, IsPassReady, free_history, given_back, history_with_own}
-use Rattle.cross_thread_region.specs.Histories.{slots_of, is_started, IsPlacedBy}
+use Rattle.cross_thread_region.specs.declared.chronicle.PlacedEntry.{PlacedEntry}
+use Rattle.cross_thread_region.specs.Histories.{entries_of, slots_of, is_started, IsPlacedBy}
 use Rattle.callback_table.specs.Registry.{registrations_of, pairs_run, entries_left, RegistryView}
 use Rattle.marker_core.specs.Bodies.{holds}
 use Rattle.page_words.specs.Seat.{SeatView}
@@ -67,26 +69,34 @@ IsPlaceOfKept old new p = (m : ℕ) × (place_of old m ≡ p) × IsKeptOrKey old
 
 -- ---- the region
 
--- the nodes that the region's strong slots name
-abbrev pub shared_roots : RegionView → List ℕ
-shared_roots region = strong_region_targets (slots_of (free_history region))
+-- what a pause found before its own entry, which is the last one that its pass has seen
+abbrev pub found_before : PassView → List PlacedEntry
+found_before passed = take (length passed.seen - 1) passed.seen
 
--- the owner may pause with the region and this pass, which is the first one: a collection was started, and each slot that isn't
--- null names a live node and has its place
+-- the nodes that the region's strong slots named then
+abbrev pub shared_roots : PassView → List ℕ
+shared_roots passed = strong_region_targets (slots_of (found_before passed))
+
+-- the owner may pause with the region and this pass, which is the first one: as far as the pass has seen, a collection was started, and
+-- each slot that isn't null names a live node and has its place
 pub record IsPausable (nodes : List Node) (region : RegionView) (pass : PassView) : Type 0 where
   pub ready : IsPassReady region pass
   pub first : pass.number ≡ 0
-  pub started : is_started (free_history region) ≡ true
-  pub live : AreLive nodes (region_targets (slots_of (free_history region)))
-  pub placed : IsPlacedBy (place_of nodes) (free_history region)
+  pub started : is_started pass.seen ≡ true
+  pub live : AreLive nodes (region_targets (slots_of pass.seen))
+  pub placed : IsPlacedBy (place_of nodes) pass.seen
 
--- the number that stands for the weak slots that name one of the dead nodes
-abbrev pub dying_in : List Node → RegionView → ℕ
-dying_in nodes region = dying_slots nodes (slots_of (free_history region))
-
--- the pause's entry was made, which clears exactly the weak slots that name one of the dead nodes, and the pass has seen it
+-- the pause found orders of threads behind what its pass had seen, whose passes are out, and made its entry behind these, which clears
+-- exactly the weak slots that name one of the dead nodes, as the slots were then; and the pass has seen it all
 pub record IsPausedRegion (nodes : List Node) (old : RegionView) (pass : PassView) (new : RegionView) (passed : PassView) : Type 0 where
-  pub region : new ≡ given_back old (history_with_own (free_history old) (O.Pause (dying_in nodes old)) 0)
-  pub seen : passed ≡ record pass { seen = free_history new }
+  pub others : List PlacedEntry
+  pub found : free_history old ≡ pass.seen ++ others
+  pub outs : All (λ (p : PlacedEntry). Contains pass.out p.entry.thread) others
+  pub orders : All (λ (p : PlacedEntry). IsThreadOp p.entry.op) others
+  pub before : found_before passed ≡ pass.seen ++ others
+  pub seen : passed ≡ record pass { seen = history_with_own (pass.seen ++ others) (O.Pause (dying_slots nodes (slots_of (pass.seen ++ others)))) 0 }
+  pub weak : NamesWeakSlots (dying_slots nodes (slots_of (pass.seen ++ others))) (slots_of (pass.seen ++ others))
+  pub legal : IsLegal (entries_of passed.seen)
+  pub region : new ≡ given_back old passed.seen
   pub ready : IsPassReady new passed
-  pub weak : NamesWeakSlots (dying_in nodes old) (slots_of (free_history old))
+  pub still : (other : PassView) → IsPassReady old other → other.number ≢ 0 → IsPassReady new other

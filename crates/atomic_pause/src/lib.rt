@@ -16,10 +16,11 @@
 //! kept, and nothing but what the cycle may keep, the region's strong slots name and the stack hits,
 //! with all that these reach; exactly the weak handles of kept objects to condemned ones become null,
 //! and exactly the weak slots, those of the region too, that name one; the prefinalizers of condemned
-//! nodes run, the last that was registered first, and nothing comes to life again. A precise pause
-//! doesn't look at the stack. It needs no memory and can't fail. Until marking ends, a precise pause
-//! to which no memory was refused looks at no headers but those of kept objects and of keys of their
-//! pairs.
+//! nodes run, the last that was registered first, and nothing comes to life again. Of the region this
+//! speaks as of the history that the pause found: what its pass had seen, and then orders of threads
+//! alone. A precise pause doesn't look at the stack. It needs no memory and can't fail. Until marking
+//! ends, a precise pause to which no memory was refused looks at no headers but those of kept objects
+//! and of keys of their pairs.
 //!
 //! What is only tested or not said: how long it takes, and which headers weak clearing and
 //! prefinalizers look at once marking has ended.

@@ -36,11 +36,12 @@ use crate::region_clearing::clear_region;
 use ephemerons::Pairs;
 
 /// Keeps what the roots reach and condemns the other objects. The roots are what the strong slots
-/// name, those of the region too, and, unless the pause is precise, the objects with a word at an
-/// address of the stack (`include/cppgc/README.md`, precise and conservative garbage collection). It
-/// is called while marking goes on, by the thread that owns the heap, once no marker has a view or a
-/// share; what was marked before it keeps too. Each marker's notes may be a group of their own.
-/// Refusals of memory stay told in the marking state and the notes, until their owner clears these.
+/// name, those of the region too in the history that the pause found, and, unless the pause is
+/// precise, the objects with a word at an address of the stack (`include/cppgc/README.md`, precise
+/// and conservative garbage collection). It is called while marking goes on, by the thread that owns
+/// the heap, once no marker has a view or a share; what was marked before it keeps too. Each marker's
+/// notes may be a group of their own. Refusals of memory stay told in the marking state and the
+/// notes, until their owner clears these.
 pub fn pause(parts: Parts, notes: &mut [Pairs], stack: &[u64], precise: bool) -> PauseResult
     requires heap { IsSpaceOf parts.space.now parts.seat.now }
     requires types { parts.seat.now.types ≡ parts.types.now }
@@ -63,9 +64,9 @@ pub fn pause(parts: Parts, notes: &mut [Pairs], stack: &[u64], precise: bool) ->
         NamePlaces parts.entry.nodes.now.value slots parts.entry.strong.now →
         IsMayWithin parts.entry.nodes.now.value parts.entry.seat.now may →
         IsPaused (callback_kinds parts.entry.callbacks.now)
-        (slot_targets slots ++ shared_roots parts.entry.region.now
+        (slot_targets slots ++ shared_roots (pass_left parts.exit).now
         ++ hits_in precise parts.entry.nodes.now.value stack.now)
-        (members may ++ shared_roots parts.entry.region.now
+        (members may ++ shared_roots (pass_left parts.exit).now
         ++ hits_in precise parts.entry.nodes.now.value stack.now)
         parts.entry.nodes.now.value (nodes_left parts.exit).now.value
         parts.entry.registry.now (registry_left parts.exit).now }
@@ -120,6 +121,7 @@ pub fn pause(parts: Parts, notes: &mut [Pairs], stack: &[u64], precise: bool) ->
     } = parts;
     gc_graph::reach_is_least();
     seat.bodies_lie_apart();
+    region.is_legal();
     let held = region.pause_begin(pass);
     let more = mark_out(
         space, types, seat, marking, notes, strong, &held, stack, precise,

@@ -1,17 +1,20 @@
 // Weak clearing of the region: its weak slots that name an object that was not marked become null,
 // with the pause's entry.
 
-ghost use Rattle.std.specs.Prelude.{◌≡◌, ◌<◌, ◌+◌, ◌==◌, ℕ, true, false, not, Some, None, Contains};
+ghost use Rattle.std.specs.Prelude.{◌≡◌, ◌≢◌, ◌<◌, ◌+◌, ◌==◌, ℕ, true, false, not};
+ghost use Rattle.std.specs.Prelude.{Some, None, Contains};
 ghost use Rattle.std.specs.Io.{StartsWith};
 ghost use Rattle.std.specs.List.{list_any};
 ghost use Rattle.std.specs.Option.{ForSome};
-ghost use Rattle.gc_graph.specs.History.{NamesWeakSlots};
+ghost use Rattle.gc_graph.specs.History.{IsLegal, NamesWeakSlots};
 ghost use Rattle.gc_graph.specs.Pause.{clear_slot};
 ghost use Rattle.marker_core.specs.Bodies.{IsPlace, holds};
 ghost use Rattle.page_words.specs.Seat.{OnlyLooked};
 ghost use Rattle.weak_clearing.specs.Space.{IsSeatOf};
-ghost use Rattle.cross_thread_region.specs.Histories.{slots_of, told_of_slot, weak_place};
-ghost use Rattle.cross_thread_region.specs.Calls.{Begins, IsPassReady, given_back, free_history};
+ghost use Rattle.cross_thread_region.specs.Histories.{entries_of, slots_of, told_of_slot};
+ghost use Rattle.cross_thread_region.specs.Histories.{weak_place};
+ghost use Rattle.cross_thread_region.specs.Calls.{Continues, IsPassReady, PassView};
+ghost use Rattle.cross_thread_region.specs.Calls.{given_back, free_history};
 ghost use Rattle.cross_thread_region.specs.Pauses.{history_paused, dying_of};
 
 use crate::roots::SHARED;
@@ -31,13 +34,16 @@ pub fn clear_region(
     requires heap { IsSeatOf space.now seat.old }
     requires off { seat.old.on ≡ false }
     requires held { region.old.inside ≡ None }
-    requires pass { Begins pass.old.seen held }
+    requires found { Continues pass.old held }
     requires first { pass.old.number ≡ 0 }
     requires places { (x p : ℕ) → weak_place held x ≡ Some p → IsPlace seat.old.bodies p }
     ensures region { region.new ≡ given_back region.old
         (history_paused pass.old held (dying_of (λ a. not (holds seat.old.marked a)) held)) }
     ensures seen { pass.new ≡ record pass.old { seen = free_history region.new } }
     ensures ready { IsPassReady region.new pass.new }
+    ensures others { (other : PassView) → Continues other held → other.number ≢ 0
+        → IsPassReady region.new other }
+    ensures legal { IsLegal (entries_of (free_history region.new)) }
     ensures weak { NamesWeakSlots (dying_of (λ a. not (holds seat.old.marked a)) held)
         (slots_of held) }
     ensures view { OnlyLooked seat.old seat.new }
