@@ -19,8 +19,9 @@
 //! all that it reaches; and no write or step leaves a grey object off the list, unless a push was
 //! refused. Markers that run change none of this, and what they did is known once a pause has joined them.
 //! Each item that the owner takes beside them it claims, finds traced or notes, unless a note was refused.
-//! A pause tells truly whether it walked: where a push or a note was refused since marking began, by
-//! whomever, and nowhere else, as far as the counts of these show it.
+//! A pause keeps what the region's strong slots name in the history that it found, orders of threads
+//! that its pass had not seen among it. It tells truly whether it walked: where a push or a note was
+//! refused since marking began, by whomever, and nowhere else, as far as the counts of these show it.
 //!
 //! What is only tested or not said: how long a call takes.
 #![tactic(auto)]

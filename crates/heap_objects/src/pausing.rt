@@ -116,11 +116,11 @@ impl Objects {
         traced
     }
 
-    /// Finishes marking, with the pause: what the strong slots, the region's among them, and, unless it
-    /// is precise, the words of the stack reach is kept, what couldn't be kept before is condemned
-    /// unless the region's slots or the stack's words reach it, what is weak and names a condemned
-    /// object becomes null, and the prefinalizers of these run. Markers that run are stopped and joined
-    /// first.
+    /// Finishes marking, with the pause: what the strong slots, the region's among them in the history
+    /// that the pause found, and, unless it is precise, the words of the stack reach is kept, what
+    /// couldn't be kept before is condemned unless the region's slots or the stack's words reach it,
+    /// what is weak and names a condemned object becomes null, and the prefinalizers of these run.
+    /// Markers that run are stopped and joined first.
     #[inline(never)]
     pub fn finish<'a, R: Threads>(
         &mut self,
@@ -148,9 +148,9 @@ impl Objects {
         ensures paused { (slots : List (Option ℕ)) (may : List Bool)
             → NamePlaces self.old.nodes slots strong.now → HasMarking may self.old
             → IsPaused self.old.callbacks
-            (slot_targets slots ++ shared_roots region.old
+            (slot_targets slots ++ shared_roots pass.new
             ++ hits_in precise self.old.nodes stack.now)
-            (members may ++ shared_roots region.old
+            (members may ++ shared_roots pass.new
             ++ hits_in precise self.old.nodes stack.now)
             self.old.nodes self.new.nodes registry.old registry.new }
         ensures sizes { (n : ℕ) → IsLive self.old.nodes n
