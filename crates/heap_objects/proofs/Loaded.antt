@@ -1,5 +1,5 @@
 -- The objects after a word was loaded, which may be a header that was looked at.
-use Rattle.std.proofs.Common.{◌≡◌, ℕ, ◌++◌, Bool, true, false, List, [], ◌∷◌, cond}
+use Rattle.std.proofs.Common.{ℕ, ◌++◌, Bool, true, false, List, [], ◌∷◌, cond}
 use Rattle.std.specs.List.{Contains}
 use Rattle.std.proofs.lemmas.List.Elements.{Contains-append_left}
 use Rattle.gc_graph.specs.declared.action.ActionKind.{ActionKind}

@@ -1,4 +1,4 @@
-use Rattle.std.proofs.Common.{◌≡◌, true, set, sym, ap, ◌∙◌, subst, inl, inr, arith}
+use Rattle.std.proofs.Common.{◌≡◌, set, sym, ap, ◌∙◌, subst, inl, inr, arith}
 use Rattle.std.proofs.lemmas.Bool.{true≢false, false_from_ne_true}
 use Rattle.std.proofs.lemmas.List.{get_or-set_same}
 use Rattle.mark_worklist.specs.Lists.{as_own}
