@@ -117,6 +117,18 @@ impl ThreadQueues {
         count
     }
 
+    /// The passes of the threads that run are joined, whose orders and replies stay. The first pass has
+    /// then seen the whole history, and no other one is out.
+    pub fn dismiss(&mut self, region: &Region, pass: &mut Pass)
+        requires first { IsFirst region.now pass.old }
+        requires outs { AreOut region.now pass.old self.old }
+        ensures dismissed { self.new ≡ record self.old { passes = [] } }
+        ensures pass { pass.new ≡ record pass.old { seen = free_history region.now; out = [] } }
+        ensures first { IsFirst region.now pass.new }
+    {
+        join_all(&mut self.passes, region, pass);
+    }
+
     /// How many orders of the threads that went last were answered.
     pub fn reply_count(&self) -> u64
         ensures { result ≡ length self.now.replies }
