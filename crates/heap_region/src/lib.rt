@@ -1,0 +1,36 @@
+//! # The region of a heap
+//!
+//! What it is: the slots that a heap's owner shares with the threads of a script
+//! (`include/cppgc/cross-thread-persistent.h`), as one value: the region, the owner's pass, the
+//! threads' orders, and what of the history the owner has taken.
+//!
+//! The parts: `OwnedRegion`, with the owner's calls in `calls` (exports, imports and the start of a
+//! collection), the pause in `pausing`, the script's threads in `threads`, and what a join tells in
+//! `telling`. Inside, `taking` looks at the objects as entries read them and keeps the entries,
+//! which `mirror` holds. Next down are `cross_thread_region`, `thread_queues` and `heap_objects`.
+//!
+//! What is proved: a call makes the owner's entry behind what threads have done until then, which
+//! is legal and orders of threads that run, with the reply of a region of one thread; then all of
+//! it is taken, and what it read from weak slots may be kept while marking goes on. Where memory is
+//! wanting nothing changes. A pause clears exactly the weak slots that name a dead node, keeps what
+//! strong slots named when it came, and needs no memory, because the start before it made the room.
+//! An order that waits has room for its entry. Threads that go do the orders of their queues, each
+//! its own in turn, and a join takes their entries and tells their answers and then the entries
+//! that none has told. A region that is closed has joined its threads, and keeps what was taken.
+//!
+//! What is only tested or not said: that memory suffices, and how entries of several threads
+//! follow each other.
+#![tactic(auto)]
+
+mod calls;
+mod mirror;
+mod owned;
+mod pausing;
+mod taking;
+mod telling;
+mod threads;
+
+pub use heap_objects::{
+    Content, CrewLists, Field, Finished, FreeGate, Gate, Objects, PairContent, Part, Wanted,
+};
+pub use owned::OwnedRegion;

@@ -1,0 +1,83 @@
+// The threads of a script: orders are queued, the threads go, and are joined.
+
+ghost use Rattle.std.specs.Prelude.{◌≡◌, ◌+◌, ◌≤◌, ℕ, [], true, false, Contains, length};
+ghost use Rattle.std.specs.Prelude.{OnOk, OnErr};
+ghost use Rattle.gc_graph.specs.Lawful.{IsAllowedOrder};
+ghost use Rattle.thread_queues.specs.Queues.{threads_in, with_order};
+ghost use Rattle.heap_objects.specs.Nodes.{AreOfValid};
+ghost use Rattle.heap_objects.specs.Objects.{setup_of_objects};
+ghost use Rattle.heap_region.specs.Calls.{HaveGoneOut, HasJoined};
+ghost use Rattle.heap_region.specs.Handled.{IsHandled, LooksAgain};
+ghost use Rattle.heap_region.specs.Owned.{HasBegun};
+
+use crate::owned::OwnedRegion;
+use crate::taking::take_seen;
+use gc_graph::{NoMemory, Order};
+use heap_objects::Objects;
+use thread_queues::Totals;
+
+impl OwnedRegion {
+    /// The order waits for its thread. Want of memory is free.
+    pub fn queue(&mut self, thread: u32, order: Order) -> Result<(), NoMemory>
+        requires opened { self.old.closed ≡ false }
+        requires joined { self.old.awaiting ≡ false }
+        requires first { 1 ≤ thread }
+        requires last { thread ≤ 8 }
+        requires allowed { IsAllowedOrder order }
+        ensures queued { OnOk result (self.new ≡ record self.old {
+          queues = with_order self.old.queues thread order;
+          room = self.old.room + 1;
+        }) }
+        ensures same { OnErr result (self.new ≡ self.old) }
+    {
+        self.mirror.make_room(1)?;
+        match self.threads.queue(thread, order) {
+            Ok(()) => Ok(()),
+            Err(NoMemory) => {
+                self.mirror.give_back(1);
+                Err(NoMemory)
+            }
+        }
+    }
+
+    /// The threads whose queues aren't empty go, and what a join told is told no more. Answers how
+    /// many threads go.
+    pub fn go(&mut self, totals: Totals) -> u32
+        requires opened { self.old.closed ≡ false }
+        requires joined { self.old.awaiting ≡ false }
+        ensures count { result ≡ length (threads_in self.old.queues) }
+        ensures went { HaveGoneOut self.old totals self.new }
+    {
+        self.totals = totals;
+        self.telling = false;
+        self.threads.go(&mut self.region, &mut self.pass, totals)
+    }
+
+    /// The threads that went are joined, and what they have done is taken, and told. Answers how
+    /// many they were.
+    pub fn join(&mut self, objects: &mut Objects) -> u32
+        requires opened { self.old.closed ≡ false }
+        requires awaited { self.old.awaiting ≡ true }
+        requires valid { AreOfValid (setup_of_objects objects.old) objects.old.nodes }
+        requires handled { IsHandled objects.old.nodes self.old.taken }
+        ensures joined { HasJoined self.old self.new result }
+        ensures looked { LooksAgain objects.old self.old self.new objects.new }
+    {
+        self.region.is_legal();
+        let count = self.threads.join(&self.region, &mut self.pass);
+        take_seen(&self.region, &mut self.pass, objects, &mut self.mirror);
+        self.shown = self.printed;
+        self.printed = self.mirror.len();
+        self.telling = true;
+        count
+    }
+
+    /// Joins the threads that run, if some do, and takes nothing of what they have done.
+    pub fn close(&mut self)
+        ensures begun { (j : ℕ) → Contains self.old.running j → HasBegun self.old j }
+        ensures closed { self.new ≡ record self.old { out = []; closed = true } }
+    {
+        self.threads.dismiss(&self.region, &mut self.pass);
+        self.closed = true;
+    }
+}
