@@ -1,2 +1,1 @@
-pub mod Imported
 pub mod RegionRoots

@@ -11,7 +11,8 @@ use Rattle.heap_objects.specs.AmongNodes.{IsAmong, among_left, among_right}
 use Rattle.heap_objects.specs.Nodes.{place_of}
 use Rattle.heap_objects.specs.Marks.{TellsRoots}
 use Rattle.heap_roots.specs.Handles.{HandlesView}
-use Rattle.heap_roots.specs.Region.{IsHandled, roots_in}
+use Rattle.heap_region.specs.Handled.{IsHandled}
+use Rattle.heap_roots.specs.Roots.{roots_in}
 
 -- what a strong slot names is a root
 pub slot_among : (handles : HandlesView) (history : List PlacedEntry) (n : ℕ) → IsAmong (slot_targets handles.slots) n → IsAmong (roots_in handles history) n

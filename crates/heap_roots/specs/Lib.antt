@@ -1,6 +1,6 @@
 pub mod Stack
 pub mod Handles
-pub mod Region
+pub mod Roots
 pub mod StackWords
 -- Words of the crates below that the crates above name too.
 pub use Rattle.heap_objects.specs.AmongNodes
@@ -32,3 +32,6 @@ pub use Rattle.heap_objects.specs.declared.field.Field
 pub use Rattle.heap_objects.specs.declared.field.Part
 pub use Rattle.heap_objects.specs.declared.field.Wanted
 pub use Rattle.heap_objects.specs.declared.pausing.Finished
+pub use Rattle.heap_region.specs.Calls
+pub use Rattle.heap_region.specs.Handled
+pub use Rattle.heap_region.specs.Owned

@@ -5,15 +5,13 @@
 //! conservative garbage collection in `include/cppgc/README.md`).
 //!
 //! The parts: `Handles`, with the slots in `handles`, the stack as a part of it in `handle_stack`, and
-//! the beginning and the end of marking in `pausing`; `Stack` and `Pushed`; `RegionHandles`, the slots
-//! that threads share, as the heap's owner has them. For contracts alone: `slot_lists` and
-//! `stack_words`.
+//! the beginning and the end of marking in `pausing`; `Stack` and `Pushed`. For contracts alone:
+//! `slot_lists` and `stack_words`. Next down is `heap_region`.
 //!
 //! What is proved: each slot holds the place that was put into it, and the word of the stack that is
 //! told is the one that was pushed. Marking begins with what the strong slots, those of the region and
 //! the pointers on the stack reach. A pause leaves all but the weak slots as they were, and of these
-//! exactly those that name a condemned object become null, in the region too. A call on the region
-//! makes the next entry of its history, or memory was wanting and nothing changed.
+//! exactly those that name a condemned object become null, in the region too.
 //!
 //! What is only tested or not said: which node a slot names is known to contracts alone.
 #![tactic(auto)]
@@ -21,7 +19,6 @@
 mod handle_stack;
 mod handles;
 mod pausing;
-mod region;
 mod slot_lists;
 mod stack;
 mod stack_words;
@@ -30,5 +27,5 @@ pub use handles::Handles;
 pub use heap_objects::{
     Content, CrewLists, Field, Finished, FreeGate, Gate, Objects, PairContent, Part, Wanted,
 };
-pub use region::RegionHandles;
+pub use heap_region::OwnedRegion;
 pub use stack::{Pushed, Stack};

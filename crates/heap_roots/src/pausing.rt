@@ -1,6 +1,6 @@
 // The handles of a heap in a collection: marking begins with what they name, and ends with the pause.
 
-ghost use Rattle.std.specs.Prelude.{◌≡◌, ℕ, List, Bool, Some, true, [], ◌+◌, ◌++◌};
+ghost use Rattle.std.specs.Prelude.{◌≡◌, ℕ, List, Bool, Some, true, false, [], ◌+◌, ◌++◌};
 ghost use Rattle.std.specs.Prelude.{◌≤◌, length, map, All, Contains};
 ghost use Rattle.gc_graph.specs.May.{members};
 ghost use Rattle.gc_graph.specs.Reach.{Reach};
@@ -20,26 +20,29 @@ ghost use Rattle.heap_objects.specs.Pausing.{IsPaused, hits_in};
 ghost use Rattle.heap_objects.specs.Marks.{ObjectsAreAtRest, HasMarking};
 ghost use Rattle.heap_objects.specs.Objects.{setup_of_objects, refused_of};
 ghost use Rattle.heap_objects.specs.Refused.{IsToldTruly};
-ghost use Rattle.heap_roots.specs.Region.{IsHandled, HasPauseEntry, roots_in};
+ghost use Rattle.heap_region.specs.Calls.{HasPauseEntry};
+ghost use Rattle.heap_region.specs.Handled.{IsHandled};
+ghost use Rattle.heap_region.specs.Owned.{found_of};
+ghost use Rattle.heap_roots.specs.Roots.{roots_in};
 ghost use Rattle.heap_roots.specs.Stack as spec;
 
 use crate::handles::Handles;
-use crate::region::RegionHandles;
 use crate::slot_lists;
 use callback_table::{CallbackTable, Registry};
 use gc_graph::Want;
 use heap_objects::{Finished, Objects};
+use heap_region::OwnedRegion;
 use std::thread::Threads;
 
 impl Handles {
     /// Begins marking: from now on what the strong slots, those of the region and the pointers on the
     /// stack reach may be kept, and what the strong slots name is marked, and what the region's strong
     /// slots named at the start entry. Contracts alone see the roots.
-    pub fn begin(&self, region: &RegionHandles, told: &[u32], objects: &mut Objects)
+    pub fn begin(&self, region: &OwnedRegion, told: &[u32], objects: &mut Objects)
         ghost roots: { List ℕ }
-        requires roots { roots ≡ roots_in self.now region.now }
-        requires told { told.now ≡ start_told region.now 32 }
-        requires shared { IsHandled objects.old.nodes region.now }
+        requires roots { roots ≡ roots_in self.now region.now.taken }
+        requires told { told.now ≡ start_told region.now.taken 32 }
+        requires shared { IsHandled objects.old.nodes region.now.taken }
         requires valid { AreOfValid (setup_of_objects objects.old) objects.old.nodes }
         requires rest { ObjectsAreAtRest objects.old }
         requires quiet { IsQuiet objects.old.seat }
@@ -47,10 +50,10 @@ impl Handles {
         requires live { AreLive objects.old.nodes (slot_targets self.now.slots) }
         requires stack_live { AreLive objects.old.nodes (stack_targets self.now.stack.words) }
         ensures marks { HasMarking (Reach (graph_of objects.old.nodes)
-            (roots_in self.now region.now)) objects.new }
+            (roots_in self.now region.now.taken)) objects.new }
         ensures slots { (p : ℕ) → Contains self.now.places (Some p)
             → holds objects.new.seat.marked p ≡ true }
-        ensures shared { (x p : ℕ) → strong_place region.now x ≡ Some p
+        ensures shared { (x p : ℕ) → strong_place region.now.taken x ≡ Some p
             → holds objects.new.seat.marked p ≡ true }
         ensures traced { objects.new.grey.traced ≡ 0 }
         ensures home { objects.new.grey.running ≡ [] }
@@ -70,7 +73,7 @@ impl Handles {
     pub fn finish<R: Threads>(
         &mut self,
         rt: &R,
-        region: &mut RegionHandles,
+        region: &mut OwnedRegion,
         objects: &mut Objects,
         registry: &mut Registry,
         callbacks: &CallbackTable,
@@ -88,13 +91,14 @@ impl Handles {
         requires weak_live { AreLive objects.old.nodes (slot_targets self.old.weak) }
         requires registered { All (IsRegistered objects.old.nodes (length objects.old.callbacks))
             registry.old.entries }
-        requires shared { IsHandled objects.old.nodes region.old }
-        requires started { is_started region.old ≡ true }
+        requires opened { region.old.closed ≡ false }
+        requires shared { IsHandled objects.old.nodes region.old.taken }
+        requires started { is_started region.old.taken ≡ true }
         ensures paused { (may : List Bool) → HasMarking may objects.old
             → IsPaused objects.old.callbacks
-            (slot_targets self.old.slots ++ strong_region_targets (slots_of region.old)
+            (slot_targets self.old.slots ++ strong_region_targets (slots_of (found_of region.new))
             ++ hits_in (spec.is_precise want) objects.old.nodes self.old.stack.addresses)
-            (members may ++ strong_region_targets (slots_of region.old)
+            (members may ++ strong_region_targets (slots_of (found_of region.new))
             ++ hits_in (spec.is_precise want) objects.old.nodes self.old.stack.addresses)
             objects.old.nodes objects.new.nodes registry.old registry.new }
         ensures sizes { (n : ℕ) → IsLive objects.old.nodes n
@@ -104,6 +108,7 @@ impl Handles {
           weak = map (clear_slot (is_dead_at objects.new.nodes)) self.old.weak;
         } }
         ensures region { HasPauseEntry objects.new.nodes region.old region.new }
+        ensures room { region.new.room ≡ region.old.room }
         ensures rest { ObjectsAreAtRest objects.new }
         ensures judged { BodiesAreJudged objects.new.seat }
         ensures kept { result.pause.kept ≡ live_count objects.new.nodes }
@@ -116,12 +121,11 @@ impl Handles {
             result.pause.walked }
         ensures setup { setup_of_objects objects.new ≡ setup_of_objects objects.old }
     {
-        let result = objects.finish(
+        let result = region.pause(
             rt,
+            objects,
             &self.strong,
             &mut self.weak,
-            &mut region.region,
-            &mut region.pass,
             self.stack.addresses(),
             is_precise(want),
             registry,

@@ -7,7 +7,7 @@ use Rattle.heap_objects.specs.AmongNodes.{IsAmong}
 use Rattle.std.specs.Prelude.{Contains, ◌+◌}
 use Rattle.heap_objects.specs.Marks.{NameRoots, TellsRoots}
 use Rattle.heap_roots.specs.Handles.{HandlesView}
-use Rattle.heap_roots.specs.Region.{roots_in}
+use Rattle.heap_roots.specs.Roots.{roots_in}
 use Rattle.heap_roots.proofs.RegionRoots.{slot_among, roots_live, tells_roots}
 use Rattle.heap_roots.proofs.handles.Handles.begin.Goals as goal
 
@@ -15,7 +15,7 @@ pub begin-requires : goal.begin-requires
 begin-requires g c =
     let nodes : List Node = c.args.objects.now.nodes in
     let handles : HandlesView = c.args.self.now in
-    let history : List PlacedEntry = c.args.region.now in
+    let history : List PlacedEntry = c.args.region.now.taken in
     let shared = c.requires.1.1.0 in
     let live = c.requires.1.1.1.1.1.1.1.0 in
     let roots : AreLive nodes g.roots =
@@ -32,5 +32,5 @@ begin-requires g c =
 
 pub returns-clause-shared : goal.returns-clause-shared
 returns-clause-shared g c = λ x p is.
-    let history : List PlacedEntry = c.args.region.now in
+    let history : List PlacedEntry = c.args.region.now.taken in
     c.begin.ensures.told p (subst (λ l. Contains l (p + 1)) (sym c.requires.1.0) (strong_is_told history 32 x p (strong_place_below history x p is) is))
