@@ -1,19 +1,13 @@
 -- The markers of a heap are started: nothing changes for the graph.
-use Rattle.std.proofs.Common.{◌≡◌, ℕ, List, [], length, Option, Some, refl, sym, ap, ◌∙◌, subst, arith, true}
-use Rattle.std.specs.List.{Contains}
+use Rattle.std.proofs.Common.{◌≡◌, List, length, refl, sym, ap, ◌∙◌, subst, arith}
 use Rattle.gc_graph.specs.declared.phase.Phase.TheVariants.{Marking}
-use Rattle.gc_graph.specs.CycleSteps.{is_marking}
 use Rattle.gc_graph.specs.State.{Setup, Node}
-use Rattle.cross_thread_region.specs.declared.chronicle.PlacedEntry.{PlacedEntry}
-use Rattle.marker_core.specs.Bodies.{holds}
 use Rattle.sweeper.specs.Sweeping.{cursor_at}
-use Rattle.heap_roots.specs.Nodes.{place_of}
 use Rattle.heap_roots.specs.Marks.{HasMarking, HasMarks}
 use Rattle.heap_roots.specs.Objects.{ObjectsView, setup_of_objects, StaysAt}
 use Rattle.heap_cycle.specs.declared.parts.Parts.{Parts}
-use Rattle.heap_cycle.specs.Cycles.{AreSlotsMarked, HasManned}
-use Rattle.heap_cycle.specs.Parts.{setup_of, state_of, AreTied}
-use Rattle.heap_cycle.specs.Region.{HasRegion}
+use Rattle.heap_cycle.specs.Cycles.{HasManned}
+use Rattle.heap_cycle.specs.Parts.{setup_of, AreTied}
 use Rattle.heap_cycle.specs.Ties.{tied_nodes}
 use Rattle.heap_cycle.specs.Views.{IsSweepOf}
 
@@ -46,30 +40,3 @@ has_manned s new is =
       since = is.since;
       others = refl;
     }
-
--- a heap without markers has none to start
-pub none_manned : (s : Parts) → AreTied s → s.objects.grey.running ≡ [] → s.objects.grey.markers ≡ 0 → HasManned s s
-none_manned s tied home none =
-    record { tied = tied; manned = ap length home ∙ sym none; setup = refl; nodes = refl; marked = refl; since = refl; others = refl }
-
-module _ (s t : Parts) (is : HasManned s t) where
-  -- the state is the same
-  pub manned_state : state_of t ≡ state_of s
-  manned_state = ap state_of is.others ∙ ap (λ (ns : List Node). record (state_of s) { nodes = ns }) is.nodes
-
-  -- the region stays the heap's
-  pub manned_region : (history : List PlacedEntry) → HasRegion s history → HasRegion t history
-  manned_region history region = record {
-    slots = ap (λ (p : Parts). p.cycle.rest.region) is.others ∙ region.slots;
-    placed = λ x n named. region.placed x n named ∙ sym (ap (λ (ns : List Node). place_of ns n) is.nodes);
-    started = region.started ∙ sym (ap (λ (p : Parts). is_marking p.cycle.phase) is.others);
-  }
-
-  -- and what the slots name is marked
-  pub manned_slots : (history : List PlacedEntry) → AreSlotsMarked s history → AreSlotsMarked t history
-  manned_slots history marked = record {
-    slots = λ p there.
-        subst (λ ms. holds ms p ≡ true) (sym is.marked)
-        (marked.slots p (subst (λ (places : List (Option ℕ)). Contains places (Some p)) (ap (λ (k : Parts). k.handles.places) is.others) there));
-    shared = λ x p named. subst (λ ms. holds ms p ≡ true) (sym is.marked) (marked.shared x p named);
-  }

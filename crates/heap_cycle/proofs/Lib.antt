@@ -1,23 +1,16 @@
 pub mod RegisteredNodes
+pub mod Pieces
+pub mod StartSteps
+pub mod EnteredRegion
+pub mod BeginSteps
+pub mod MayTaken
+pub mod PauseStates
+pub mod PauseSteps
+pub mod CollectSteps
 pub mod SweptObjects
 pub mod PlacementSteps
 pub mod SweepSteps
 pub mod WayToPlace
-pub mod SharedSteps
 pub mod PauseKeeps
-pub mod CollectSteps
-mod PauseSteps
-mod StartSteps
 mod CrewSteps
-mod TakenSteps
 pub mod OutcomeLines
-mod Prefixes
-mod OthersTaken
-mod LookedAgain
-mod Orders
-mod TakenReady
-mod SweptShared
-mod CycleTakes
-mod OwnCalls
-mod ToldEntries
-mod ThreadSteps

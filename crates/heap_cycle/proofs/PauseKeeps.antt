@@ -129,7 +129,7 @@ roots_within want s hits n has is =
     ]
 
 -- what the region's strong slots name may be kept
-shared_may : (s : State) (n : ℕ) → IsMay s → IsAmong (strong_region_targets s.region) n → IsIn s.may n
+pub shared_may : (s : State) (n : ℕ) → IsMay s → IsAmong (strong_region_targets s.region) n → IsIn s.may n
 shared_may s n may is = may.roots n (among_right (slot_targets s.slots ++ stack_targets s.stack) (strong_region_targets s.region) n is)
 
 -- what may be kept, with what the region's strong slots name, reaches no more than it does alone

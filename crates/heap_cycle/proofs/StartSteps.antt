@@ -6,29 +6,28 @@ use Rattle.gc_graph.specs.declared.command.Command.TheVariants as C
 use Rattle.gc_graph.specs.declared.line.Line.{Line}
 use Rattle.gc_graph.specs.declared.line.Line.TheVariants as L
 use Rattle.gc_graph.specs.declared.line.Refusal.TheVariants as R
-use Rattle.gc_graph.specs.declared.phase.Phase.TheVariants.{Idle, Marking}
+use Rattle.gc_graph.specs.declared.phase.Phase.{Phase}
+use Rattle.gc_graph.specs.declared.phase.Phase.TheVariants.{Idle, Marking, Sweeping}
 use Rattle.gc_graph.specs.declared.region.Entry.{Entry}
 use Rattle.gc_graph.specs.declared.region.Op.TheVariants as O
 use Rattle.gc_graph.specs.Reach.{Reach}
 use Rattle.gc_graph.specs.Shapes.{IsShape}
 use Rattle.gc_graph.specs.State.{Setup, State, Node, graph_of, roots_of}
 use Rattle.gc_graph.specs.CycleSteps.{IsStart, IsBegun, StepGcStart, WantsMemory, is_marking}
-use Rattle.gc_graph.specs.History.{IsLegalFrom, reply_of}
+use Rattle.gc_graph.specs.History.{IsLegalFrom}
 use Rattle.gc_graph.specs.May.{marking}
 use Rattle.gc_graph.specs.Outcomes.{answered, finalise_lines, owner_entry, took, AreOthers, IsRefused}
 use Rattle.gc_graph.specs.Replays.{legal-append}
 use Rattle.gc_graph.specs.Sweep.{SweepsInPhase, SweepsToEnd}
-use Rattle.gc_graph.specs.Valid.{IsValid}
+use Rattle.gc_graph.specs.Valid.{HasMay, IsValid}
 use Rattle.gc_graph.specs.ValidLaw.{StepKeepsValid}
 use Rattle.sweeper.specs.Sweeping.{cursor_at}
 use Rattle.heap_roots.specs.Marks.{HasMarking, HasMarks}
 use Rattle.heap_roots.specs.Objects.{ObjectsView, HaveCallbacks, setup_of_objects, StaysAt}
 use Rattle.heap_cycle.specs.declared.parts.Parts.{Parts}
 use Rattle.heap_cycle.specs.Changes.{begun_from}
-use Rattle.heap_cycle.specs.Cycles.{started_state}
 use Rattle.heap_cycle.specs.Parts.{setup_of, state_of, IsReady}
 use Rattle.heap_cycle.specs.Ties.{tied_nodes}
-use Rattle.heap_cycle.specs.Took.{took_append, took_is}
 use Rattle.heap_cycle.specs.Views.{CycleView, IsSweepOf}
 use Rattle.heap_cycle.proofs.SweepSteps.{uncounted}
 
@@ -38,7 +37,7 @@ on_false b P Q is q = subst (λ x. MatchBool x P Q) (sym is) q
 pub on_true : (b : Bool) (P Q : Type 0) → b ≡ true → P → MatchBool b P Q
 on_true b P Q is p = subst (λ x. MatchBool x P Q) (sym is) p
 
-pub starts : (setup : Setup) (s : State) → IsStart setup s (owner_entry s O.Start ∷ []) (started_state s)
+pub starts : (setup : Setup) (s : State) → IsStart setup s (owner_entry s O.Start ∷ []) (marking (took s (owner_entry s O.Start ∷ [])))
 starts setup s = record { before = []; others = λ k d low. absurd (omega arith); piece_is = refl; legal = (refl, tt, tt); after = refl }
 
 -- where marking doesn't go on, gc start ends the open sweep and starts
@@ -61,12 +60,35 @@ step_started setup s t started new numbers piece lines calm ended start printed 
 ends_at_once : (setup : Setup) (s : State) → s.phase ≡ Idle → SweepsToEnd setup.shape s [] s
 ends_at_once setup s idle = subst (λ ph. SweepsInPhase ph setup.shape s setup.shape.pages [] s) (sym idle) (refl, refl)
 
-valid_started : (setup : Setup) (s : State) → StepKeepsValid → IsShape setup.shape → IsValid setup s → s.phase ≡ Idle → IsValid setup (started_state s)
+-- what is to be printed has no part in validity
+pub unprinted_apart : (setup : Setup) (s : State) (es : List Entry) → IsValid setup (record s { unprinted = es }) → IsValid setup s
+unprinted_apart setup s es valid = record {
+  typed = valid.typed;
+  named = valid.named;
+  apart = valid.apart;
+  within = valid.within;
+  pure = valid.pure;
+  slots = valid.slots;
+  weak = valid.weak;
+  stack = valid.stack;
+  region = valid.region;
+  registered = valid.registered;
+  settled = valid.settled;
+  may_kept = same_may s.phase valid.may_kept;
+} where
+  same_may : (phase : Phase) → HasMay phase (record s { unprinted = es }) → HasMay phase s
+  same_may Idle may = tt
+  same_may Marking may = record { closed = may.closed; roots = may.roots; live = may.live; whole = may.whole }
+  same_may Sweeping may = tt
+
+valid_started : (setup : Setup) (s : State) → StepKeepsValid → IsShape setup.shape → IsValid setup s → s.phase ≡ Idle → IsValid setup (marking s)
 valid_started setup s law shape valid idle =
-    uncounted setup (started_state s)
-    (law setup s (answered (started_state s)) C.GcStart (owner_entry s O.Start ∷ []) (L.Started ∷ []) (omega (arith, shape.some)) tt valid
-    (step_started setup s s (started_state s) (answered (started_state s)) [] (owner_entry s O.Start ∷ []) (L.Started ∷ []) (ap is_marking idle) (ends_at_once setup s idle)
-    (starts setup s) refl refl))
+    let piece : List Entry = owner_entry s O.Start ∷ [] in
+    let begun : State = marking (took s piece) in
+    unprinted_apart setup (marking s) (s.unprinted ++ piece)
+    (uncounted setup begun
+    (law setup s (answered begun) C.GcStart piece (L.Started ∷ []) (omega (arith, shape.some)) tt valid
+    (step_started setup s s begun (answered begun) [] piece (L.Started ∷ []) (ap is_marking idle) (ends_at_once setup s idle) (starts setup s) refl refl)))
 
 -- from idle parts to those after marking has begun
 pub record Begins (s : Parts) (new : ObjectsView) (after : CycleView) : Type 0 where
@@ -82,10 +104,10 @@ module _ (s : Parts) (new : ObjectsView) (after : CycleView) (is : Begins s new 
   abbrev begun : Parts
   begun = record s { objects = new; cycle = after }
 
-  pub begun_state : state_of begun ≡ started_state (state_of s)
+  pub begun_state : state_of begun ≡ marking (state_of s)
   begun_state =
       ap (λ (c : CycleView). state_of (record s { objects = new; cycle = c })) is.cycle
-      ∙ ap (λ (ns : List Node). record (started_state (state_of s)) { nodes = ns }) is.nodes
+      ∙ ap (λ (ns : List Node). record (marking (state_of s)) { nodes = ns }) is.nodes
 
   begun_marks : HasMarks after.phase (cursor_at new.shape after.sweep) after.rest.may new
   begun_marks =
@@ -117,16 +139,13 @@ module _ (s : Parts) (new : ObjectsView) (after : CycleView) (is : Begins s new 
 -- ---- the start after what threads have done
 
 -- they have made their entries before the start entry
-pub starts_after : (setup : Setup) (swept mid new : State) (es piece : List Entry) → AreOthers swept es → IsLegalFrom swept.region false es
-    → mid ≡ took swept es → new ≡ started_state mid → piece ≡ es ++ owner_entry mid O.Start ∷ [] → IsStart setup swept piece new
-starts_after setup swept mid new es piece others legal taken started is =
-    let own : owner_entry mid O.Start ∷ [] ≡ owner_entry (took swept es) O.Start ∷ [] = ap (λ (t : State). owner_entry t O.Start ∷ []) taken in
-    let whole : piece ≡ es ++ owner_entry (took swept es) O.Start ∷ [] = is ∙ ap (λ l. es ++ l) own in
-    record {
-      before = es;
-      others = others;
-      piece_is = whole;
-      legal = subst (IsLegalFrom swept.region false) (sym whole) (legal-append swept.region false es (owner_entry (took swept es) O.Start ∷ []) legal
-          (ap (λ r. reply_of r O.Start) (ap (λ (t : State). t.region) (took_is swept es)), tt, tt));
-      after = started ∙ ap started_state taken ∙ ap marking (sym (took_append swept es (owner_entry (took swept es) O.Start ∷ [])) ∙ ap (took swept) (sym whole));
-    }
+pub starts_after : (setup : Setup) (swept new : State) (es piece : List Entry) → AreOthers swept es → IsLegalFrom swept.region false es
+    → piece ≡ es ++ owner_entry (took swept es) O.Start ∷ [] → new ≡ marking (took swept piece) → IsStart setup swept piece new
+starts_after setup swept new es piece others legal whole after = record {
+  before = es;
+  others = others;
+  piece_is = whole;
+  legal = subst (IsLegalFrom swept.region false) (sym whole)
+      (legal-append swept.region false es (owner_entry (took swept es) O.Start ∷ []) legal (refl, tt, tt));
+  after = after;
+}

@@ -1,4 +1,4 @@
--- An open sweep that goes on is a step of the graph, and leaves the parts ready.
+-- An open sweep that goes on is a step of the graph, and leaves the parts ready; and a sweep of all pages begins.
 use Rattle.std.proofs.Common.{◌≡◌, ℕ, ◌+◌, ◌-◌, ◌*◌, ◌<◌, ◌≤◌, List, [], ◌∷◌, ◌++◌, length, map, refl, sym, ap, ◌∙◌, subst, inl, inr, arith, cond, eqb}
 use Rattle.std.specs.Prelude.{MatchBool, min}
 use Rattle.std.proofs.lemmas.Bool.{cases_Bool, eqb-true}
@@ -21,12 +21,14 @@ use Rattle.gc_graph.specs.ValidLaw.{StepKeepsValid}
 use Rattle.callback_table.specs.declared.registry.Registered.{Registered}
 use Rattle.callback_table.specs.Registry.{registrations_of}
 use Rattle.sweeper.specs.Sweeping.{SweepView, cursor_at}
+use Rattle.heap_roots.specs.Owned.{with_region}
 use Rattle.heap_cycle.specs.Changes.{SweepsParts}
 use Rattle.heap_roots.specs.Finalising.{IsSweptTo}
 use Rattle.heap_roots.specs.Marking.{GreyView}
 use Rattle.heap_roots.specs.Marks.{ObjectsAreAtRest, HasMarks}
 use Rattle.heap_cycle.specs.Finalising.{SweepsOn}
-use Rattle.heap_roots.specs.Objects.{HaveCallbacks, ObjectsView, StaysAt}
+use Rattle.heap_roots.specs.Objects.{HaveCallbacks, ObjectsView, StaysAt, setup_of_objects}
+use Rattle.heap_roots.specs.PlacesInWords.{BodiesAreJudged}
 use Rattle.heap_cycle.specs.declared.parts.Parts.{Parts}
 use Rattle.heap_cycle.specs.Views.{CycleView, IsSweepOf}
 use Rattle.heap_cycle.specs.Parts.{setup_of, state_of, IsReady}
@@ -43,7 +45,8 @@ parts_sweep s new after pages before told sweeping is =
     let nodes : List Node = map (finalise (pages * shape.page_words)) s.objects.nodes in
     let entries : List Registered = s.cycle.registered in
     let build : List Node → List Registered → Phase → State → State = λ ns es ph r.
-    record r { nodes = ns; slots = s.handles.slots; weak = s.handles.weak; stack = s.handles.stack.words; registrations = registrations_of es; phase = ph } in
+    with_region
+    s.region (record r { nodes = ns; slots = s.handles.slots; weak = s.handles.weak; stack = s.handles.stack.words; registrations = registrations_of es; phase = ph }) in
     subst (λ ph. SweepsInPhase ph shape (state_of s) pages is.nodes.numbers (state_of (record s { objects = new; cycle = after }))) (sym sweeping) (record {
       finalised = is.nodes.order;
       after = ap (λ ns. build ns after.registered after.phase after.rest) is.nodes.nodes ∙ ap (λ es. build nodes es after.phase after.rest) is.registered
@@ -172,3 +175,29 @@ parts_ready s new after pages before told law shape ready sweeping further withi
           (omega (arith, ready.tied.made, ordinal, ap length is.nodes.nodes, length-map o.nodes (finalise limit)));
       most = omega (arith, ready.most, ordinal);
     }
+
+-- ---- a sweep of all pages begins
+
+pub began_sweep : (mid new : ObjectsView) (between after : CycleView) → IsSweepOf mid.shape between.phase between.rest.cursor between.sweep
+    → setup_of_objects new ≡ setup_of_objects mid → after.phase ≡ Sweeping → after.sweep ≡ record between.sweep { cursor = 0 } → after.rest.cursor ≡ 0
+    → IsSweepOf new.shape after.phase after.rest.cursor after.sweep
+began_sweep mid new between after is setup phase sweep cursor = record {
+  pages = ap (λ (w : SweepView). w.pages) sweep ∙ is.pages ∙ sym (ap (λ (st : Setup). st.shape.pages) setup);
+  cursor_is = ap (λ (w : SweepView). w.cursor) sweep ∙ sym cursor ∙ sym (ap (λ ph. pages_swept_in ph new.shape.pages after.rest.cursor) phase);
+}
+
+pub began_marks : (new : ObjectsView) (after : CycleView) (s : SweepView) → after.phase ≡ Sweeping → after.sweep ≡ record s { cursor = 0 } → ObjectsAreAtRest new
+    → BodiesAreJudged new.seat → HasMarks after.phase (cursor_at new.shape after.sweep) after.rest.may new
+began_marks new after s phase sweep rest judged =
+    let none : cursor_at new.shape after.sweep ≡ 0 = ap (cursor_at new.shape) sweep ∙ (let e : 0 * new.shape.page_words ≡ 0 = omega arith in e) in
+    subst (λ ph. HasMarks ph (cursor_at new.shape after.sweep) after.rest.may new) (sym phase) (
+      rest,
+      record {
+        clear = record {
+          marked = λ a low. absurd (omega (arith, low, none));
+          traced = λ a low. absurd (omega (arith, low, none));
+          dead = λ a low. absurd (omega (arith, low, none));
+        };
+        judged = λ b there high. judged b there;
+      },
+    )

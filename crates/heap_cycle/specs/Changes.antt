@@ -1,21 +1,19 @@
 -- How the handles and the cycle change.
-use Rattle.std.specs.Prelude.{◌≡◌, ◌*◌, ℕ, ◌+◌, ◌-◌, true, [], ◌∷◌, ◌++◌, List, length, map, take, drop}
+use Rattle.std.specs.Prelude.{◌≡◌, ◌*◌, ℕ, ◌+◌, ◌-◌, ◌++◌, List, length, map, take, drop}
 use Rattle.gc_graph.specs.declared.phase.Phase.{Phase}
 use Rattle.gc_graph.specs.May.{may_with_new}
 use Rattle.gc_graph.specs.Reach.{Reach}
 use Rattle.gc_graph.specs.Sweep.{phase_at}
-use Rattle.gc_graph.specs.declared.region.Op.{Op}
-use Rattle.gc_graph.specs.declared.region.Op.TheVariants as O
-use Rattle.gc_graph.specs.Outcomes.{owner_entry, took}
-use Rattle.gc_graph.specs.Pause.{dying_slots}
-use Rattle.gc_graph.specs.RegionSteps.{threads_with_orders}
-use Rattle.gc_graph.specs.State.{State, Node, graph_of, roots_of}
+use Rattle.cross_thread_region.specs.declared.chronicle.PlacedEntry.{PlacedEntry}
+use Rattle.cross_thread_region.specs.Histories.{entries_of}
+use Rattle.gc_graph.specs.Outcomes.{took}
+use Rattle.gc_graph.specs.State.{State, graph_of, roots_of}
 use Rattle.callback_table.specs.declared.registry.Registered.{Registered}
 use Rattle.callback_table.specs.Registry.{placed_at}
 use Rattle.heap_roots.specs.Finalising.{FinalisesBelow}
 use Rattle.heap_roots.specs.Marks.{HasMarks}
 use Rattle.heap_roots.specs.Objects.{ObjectsView, setup_of_objects}
-use Rattle.heap_cycle.specs.Views.{CycleView}
+use Rattle.heap_cycle.specs.Views.{CycleView, Moment}
 
 -- the last registrations, so many of them, got this place
 abbrev pub placed_last : ℕ → ℕ → List Registered → List Registered
@@ -42,17 +40,13 @@ pub record SweepsParts (o new : ObjectsView) (c after : CycleView) (pages : ℕ)
   pub marks : HasMarks after.phase (pages * o.shape.page_words) after.rest.may new
   pub grey : new.grey ≡ o.grey
 
--- the owner made this entry, and took it
-abbrev pub taken_own : State → Op → State
-taken_own s op = took s (owner_entry s op ∷ [])
-
--- the threads that have orders went, and their join is awaited
-abbrev pub going : State → State
-going s = record s { running = threads_with_orders s; awaiting = true }
-
 -- marking began in this state
 abbrev pub begun_from : State → State
-begun_from s = record (taken_own s O.Start) { may = Reach (graph_of s.nodes) (roots_of s); traced = 0 }
+begun_from s = record s { may = Reach (graph_of s.nodes) (roots_of s); traced = 0 }
+
+-- since this moment the history was taken so far, and what the entries read weakly may be kept
+abbrev pub with_taken : Moment → List PlacedEntry → State → State
+with_taken before history s = record s { may = (took before.state (entries_of (drop (length before.taken) history))).may }
 
 -- a new node may be kept, where marking goes on
 abbrev pub with_new : Phase → State → State
@@ -62,6 +56,6 @@ with_new phase s = record s { may = may_with_new phase s.may }
 abbrev pub traced_more : ℕ → State → State
 traced_more count s = record s { traced = s.traced + count }
 
--- and its pause is over, which left these nodes
-abbrev pub paused_from : List Node → State → State
-paused_from nodes s = record (taken_own s (O.Pause (dying_slots nodes s.region))) { cursor = 0; pauses = s.pauses + 1 }
+-- and its pause is over
+abbrev pub paused_from : State → State
+paused_from s = record s { cursor = 0; pauses = s.pauses + 1 }

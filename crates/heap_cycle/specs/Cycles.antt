@@ -1,34 +1,26 @@
 -- A cycle from its start to its pause, over the parts of a heap.
-use Rattle.std.specs.Prelude.{◌≡◌, ◌+◌, ◌<◌, ℕ, true, false, length, List, [], ◌∷◌, Contains, Some}
+use Rattle.std.specs.Prelude.{◌≡◌, ◌<◌, ℕ, true, false, length, List, [], ◌∷◌, Contains, Some}
 use Rattle.gc_graph.specs.declared.command.Want.{Want}
 use Rattle.gc_graph.specs.declared.line.Line.{Line}
 use Rattle.gc_graph.specs.declared.line.Line.TheVariants as L
 use Rattle.gc_graph.specs.declared.phase.Phase.TheVariants.{Marking, Sweeping}
 use Rattle.gc_graph.specs.State.{State}
 use Rattle.gc_graph.specs.Sweep.{SweepsToEnd}
-use Rattle.gc_graph.specs.May.{marking}
-use Rattle.gc_graph.specs.declared.region.Op.TheVariants as O
 use Rattle.cross_thread_region.specs.declared.chronicle.PlacedEntry.{PlacedEntry}
 use Rattle.cross_thread_region.specs.Histories.{strong_place}
 use Rattle.gc_graph.specs.CycleSteps.{IsPause, IsStart}
 use Rattle.mark_worklist.specs.Shares.{last_count}
 use Rattle.marker_core.specs.Bodies.{holds}
-use Rattle.heap_roots.specs.Region.{HasPauseEntry}
+use Rattle.heap_roots.specs.Calls.{TakesMore}
+use Rattle.heap_roots.specs.Owned.{piece_of}
 use Rattle.heap_roots.specs.Refused.{RefusalsTold, IsToldTruly}
 use Rattle.heap_roots.specs.Finished.{Finished}
 use Rattle.heap_roots.specs.Crews.{IsIdleOrLong}
 use Rattle.heap_roots.specs.Objects.{refused_of}
 use Rattle.heap_cycle.specs.declared.parts.Parts.{Parts}
-use Rattle.heap_cycle.specs.Changes.{taken_own}
-use Rattle.heap_cycle.specs.Region.{HasRegion, made}
-use Rattle.heap_cycle.specs.Shared.{TakesAhead, taken_of}
-use Rattle.heap_cycle.specs.declared.shared.Shared.{Shared}
-use Rattle.heap_cycle.specs.Parts.{setup_of, state_of, AreTied, IsReady, IsManned}
+use Rattle.heap_cycle.specs.Region.{HasRegion}
+use Rattle.heap_cycle.specs.Parts.{setup_of, state_of, AreTied, IsReady}
 use Rattle.heap_cycle.specs.Printed.{ran_lines}
-
--- the state in which marking has just begun
-abbrev pub started_state : State → State
-started_state s = marking (taken_own s O.Start)
 
 -- what the strong slots name is marked, and what the strong slots of the region with this history name
 pub record AreSlotsMarked (s : Parts) (history : List PlacedEntry) : Type 0 where
@@ -47,16 +39,15 @@ pub record HasNoRefusedNote (told : RefusalsTold) : Type 0 where
 
 -- the open sweep was ended, in which these nodes were finalised; what threads have done was taken, and the start entry, and then
 -- marking began
-pub record HasBegun (old : Parts) (before : Shared) (numbers : List ℕ) (new : Parts) (after : Shared) : Type 0 where
+pub record HasBegun (old : Parts) (numbers : List ℕ) (new : Parts) : Type 0 where
   pub swept : State
   pub ended : SweepsToEnd old.objects.shape (state_of old) numbers swept
-  pub start : IsStart (setup_of old) swept (made (taken_of before) (taken_of after)) (state_of new)
+  pub start : IsStart (setup_of old) swept (piece_of old.region new.region) (state_of new)
   pub ready : IsReady new
   pub marking : new.cycle.phase ≡ Marking
-  pub grown : TakesAhead before after
-  pub one : length after.region ≡ length before.region + 1
-  pub region : HasRegion new after.region
-  pub marked : AreSlotsMarked new (taken_of after)
+  pub grown : TakesMore old.region new.region
+  pub region : HasRegion new
+  pub marked : AreSlotsMarked new new.region.taken
   pub home : new.objects.grey.running ≡ []
   pub setup : setup_of new ≡ setup_of old
   pub since : new.objects.grey.since ≡ refused_of old.objects
@@ -90,15 +81,15 @@ pause_line result = L.Pause result.pause.kept result.pause.dead result.crew resu
 
 -- the pause of a cycle at which so many markers run is a step of the graph, of which it tells, and leaves the parts tied, with the
 -- region
-pub record HasPaused (markers : ℕ) (want : Want) (old : Parts) (before : List PlacedEntry) (new : Parts) (after : List PlacedEntry) (result : Finished)
-    : Type 0 where
+pub record HasPaused (markers : ℕ) (want : Want) (old new : Parts) (result : Finished) : Type 0 where
   pub pause :
-      IsPause (setup_of old) markers want (state_of old) (made before after) (pause_line result ∷ ran_lines true new.cycle.ran)
-      (state_of new)
+      IsPause (setup_of old) markers want (state_of old) (piece_of old.region new.region)
+      (pause_line result ∷ ran_lines true new.cycle.ran) (state_of new)
   pub phase : new.cycle.phase ≡ Sweeping
   pub setup : setup_of new ≡ setup_of old
   pub ordinal : new.cycle.rest.ordinal ≡ old.cycle.rest.ordinal
   pub tied : AreTied new
-  pub entry : HasPauseEntry new.objects.nodes before after
-  pub shared : HasRegion new after
+  pub grown : TakesMore old.region new.region
+  pub room : new.region.room ≡ old.region.room
+  pub region : HasRegion new
   pub walked : IsToldTruly old.objects.grey.since (refused_of new.objects) result.pause.walked

@@ -34,5 +34,5 @@ slots_kept s p ready marking there =
     let owned : List ℕ = stack_targets s.handles.stack.words in
     subst (λ q. holds s.objects.seat.may q ≡ true) named.2
     (root_kept s named.0 ready marking
-    (among_left _ (strong_region_targets s.cycle.rest.region) named.0 (among_left (slot_targets slots) owned named.0 (root_of_slot slots named.0 named.1)))
+    (among_left _ (strong_region_targets (state_of s).region) named.0 (among_left (slot_targets slots) owned named.0 (root_of_slot slots named.0 named.1)))
     (slot_node_live s.objects.nodes slots named.0 ready.valid.slots named.1))

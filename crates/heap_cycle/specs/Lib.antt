@@ -5,23 +5,22 @@ pub mod Views
 pub mod Walks
 pub mod Parts
 pub mod Region
-pub mod Taking
-pub mod Shared
 pub mod Changes
 pub mod Cycles
 pub mod Registrations
 pub mod Ties
 pub mod KeptRoots
 pub mod Took
-pub mod ThreadEntries
 -- Words of the crates below that the crates above name too.
 pub use Rattle.heap_roots.specs.AmongNodes
 pub use Rattle.heap_roots.specs.Barrier
+pub use Rattle.heap_roots.specs.Calls
 pub use Rattle.heap_roots.specs.Crews
 pub use Rattle.heap_roots.specs.Field
 pub use Rattle.heap_roots.specs.FieldNodes
 pub use Rattle.heap_roots.specs.FieldReads
 pub use Rattle.heap_roots.specs.Fields
+pub use Rattle.heap_roots.specs.Handled
 pub use Rattle.heap_roots.specs.Handles
 pub use Rattle.heap_roots.specs.KeptNodes
 pub use Rattle.heap_roots.specs.Marking
@@ -32,6 +31,7 @@ pub use Rattle.heap_roots.specs.Nodes
 pub use Rattle.heap_roots.specs.Note
 pub use Rattle.heap_roots.specs.Notes
 pub use Rattle.heap_roots.specs.Objects
+pub use Rattle.heap_roots.specs.Owned
 pub use Rattle.heap_roots.specs.PairFields
 pub use Rattle.heap_roots.specs.Part
 pub use Rattle.heap_roots.specs.PlacesInWords

@@ -10,8 +10,9 @@ use Rattle.sweeper.specs.Sweeping.{cursor_at}
 use Rattle.heap_roots.specs.PlacesInWords.{places_of_slots}
 use Rattle.heap_cycle.specs.declared.parts.Parts.{Parts}
 use Rattle.heap_roots.specs.Objects.{HaveCallbacks, setup_of_objects}
+use Rattle.heap_roots.specs.Owned.{with_region}
 use Rattle.heap_roots.specs.Stack.{HoldsWords}
-use Rattle.heap_cycle.specs.Views.{IsSweepOf, IsPlaced}
+use Rattle.heap_cycle.specs.Views.{IsSweepOf, IsPlaced, Moment}
 use Rattle.heap_cycle.specs.Walks.{IsWalkTold}
 use Rattle.heap_roots.specs.Marks.{HasMarks}
 use Rattle.heap_roots.specs.Objects.{refusals_told_of}
@@ -23,14 +24,19 @@ setup_of s = setup_of_objects s.objects
 -- the state is put together from what each part holds of it
 abbrev pub state_of : Parts → State
 state_of s =
-    record s.cycle.rest {
+    with_region
+    s.region (record s.cycle.rest {
       nodes = s.objects.nodes;
       slots = s.handles.slots;
       weak = s.handles.weak;
       stack = s.handles.stack.words;
       registrations = registrations_of s.cycle.registered;
       phase = s.cycle.phase;
-    }
+    })
+
+-- this moment of the parts
+abbrev pub moment_of : Parts → Moment
+moment_of s = record { state = state_of s; taken = s.region.taken }
 
 -- one command more was answered
 abbrev pub counted : Parts → Parts

@@ -4,6 +4,7 @@ use Rattle.gc_graph.specs.declared.phase.Phase.{Phase}
 use Rattle.gc_graph.specs.State.{Shape, State, Node}
 use Rattle.gc_graph.specs.Sweep.{pages_swept_in}
 use Rattle.callback_table.specs.declared.registry.Registered.{Registered}
+use Rattle.cross_thread_region.specs.declared.chronicle.PlacedEntry.{PlacedEntry}
 use Rattle.sweeper.specs.Sweeping.{SweepView}
 use Rattle.heap_roots.specs.Nodes.{place_of}
 
@@ -16,6 +17,11 @@ pub record CycleView : Type 0 where
   pub registered : List Registered
   pub ran : List (ℕ × ℕ)
   pub rest : State
+
+-- a moment: the state then, and what was taken of the region's history
+pub record Moment : Type 0 where
+  pub state : State
+  pub taken : List PlacedEntry
 
 -- ---- what is true of a part
 

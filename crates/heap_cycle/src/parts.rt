@@ -1,7 +1,7 @@
 // The parts of a heap, which commands take together.
 
 use crate::cycle::Cycle;
-use heap_roots::{Handles, Objects};
+use heap_roots::{Handles, Objects, OwnedRegion};
 
 /// The parts of a heap. Each has a model, and contracts see what each of them is.
 #[derive(Drop)]
@@ -9,4 +9,5 @@ pub struct Parts {
     pub objects: Objects,
     pub handles: Handles,
     pub cycle: Cycle,
+    pub region: OwnedRegion,
 }

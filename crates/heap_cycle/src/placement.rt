@@ -36,6 +36,7 @@ pub fn place_for(parts: &mut Parts, count: u32, size: u32, outcome: &mut Outcome
     ensures manned { IsManned parts.old → IsManned parts.new }
     ensures made { length parts.new.objects.nodes ≡ length parts.old.objects.nodes }
     ensures ordinal { parts.new.cycle.rest.ordinal ≡ parts.old.cycle.rest.ordinal }
+    ensures region { parts.new.region ≡ parts.old.region }
     ensures outcome { outcome.new ≡ record outcome.old { numbers = outcome.new.numbers } }
 {
     parts.objects.shape_is_valid();
@@ -86,6 +87,7 @@ fn sweep_until_found(
     ensures manned { IsManned parts.old → IsManned parts.new }
     ensures made { length parts.new.objects.nodes ≡ length parts.old.objects.nodes }
     ensures ordinal { parts.new.cycle.rest.ordinal ≡ parts.old.cycle.rest.ordinal }
+    ensures region { parts.new.region ≡ parts.old.region }
     ensures told { AreFewTold parts.new.objects.shape
         (cursor_at parts.new.objects.shape parts.new.cycle.sweep)
         parts.new.objects.seat finalised.new.items }

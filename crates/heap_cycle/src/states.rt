@@ -4,17 +4,15 @@
 ghost use Rattle.std.specs.Prelude.{◌≡◌};
 ghost use Rattle.gc_graph.specs.State.{empty_state};
 ghost use Rattle.gc_graph.specs.May.{weakly_read};
-ghost use Rattle.gc_graph.specs.Outcomes.{answered, took};
-ghost use Rattle.gc_graph.specs.RegionSteps.{queued, joined};
-ghost use Rattle.heap_cycle.specs.Parts.{state_of};
-ghost use Rattle.heap_cycle.specs.Changes.{filled, swept_to, taken_own, begun_from};
-ghost use Rattle.heap_cycle.specs.Changes.{with_new, paused_from, traced_more, going};
-ghost use Rattle.heap_cycle.specs.Taking.{entries_between};
+ghost use Rattle.gc_graph.specs.Outcomes.{answered};
+ghost use Rattle.heap_cycle.specs.Parts.{moment_of, state_of};
+ghost use Rattle.heap_cycle.specs.Changes.{filled, swept_to, begun_from};
+ghost use Rattle.heap_cycle.specs.Changes.{with_new, with_taken, paused_from, traced_more};
 
 use crate::parts::Parts;
-use gc_graph::{Op, Order, Phase};
+use gc_graph::Phase;
 use ghost_values::GhostValue;
-use heap_roots::{Objects, RegionHandles};
+use heap_roots::OwnedRegion;
 use std::marker::Model;
 
 /// A state of the graph. It is never made.
@@ -66,73 +64,42 @@ pub fn swept(rest: &GhostValue<States>, pages: u32, count: u32) -> GhostValue<St
     GhostValue::chosen(&AboutSweep { rest, pages, count })
 }
 
-/// What an entry looks at.
+/// Moments. None is ever made.
 #[derive(Drop)]
-struct AboutEntry<'a> {
-    parts: &'a Parts,
-    op: Op,
+pub struct Moments {
+    none: u8,
 }
 
-/// The owner made this entry, and took it.
-pub fn took(parts: &Parts, op: Op) -> GhostValue<States>
-    ensures { result.value ≡ taken_own (state_of parts.now) op }
+impl Model for Moments {
+    ghost use Rattle.std.specs.Prelude.{[]};
+    ghost use Rattle.gc_graph.specs.State.{empty_state};
+    ghost use Rattle.heap_cycle.specs.Views.{Moment};
+
+    ghost Value = { Moment };
+
+    ghost view = { λ m. record { state = empty_state; taken = [] } };
+}
+
+/// The state of the parts now, and what was taken of the region's history.
+pub fn moment(parts: &Parts) -> GhostValue<Moments>
+    ensures { result.value ≡ moment_of parts.now }
 {
-    GhostValue::chosen(&AboutEntry { parts, op })
+    GhostValue::chosen(parts)
 }
 
-/// What entries of threads look at.
+/// What the taking of entries looks at.
 #[derive(Drop)]
-struct AboutOthers<'a> {
+struct AboutTaking<'a> {
     parts: &'a Parts,
-    region: &'a RegionHandles,
-    from: u64,
-    to: u64,
+    before: &'a GhostValue<Moments>,
 }
 
-/// These entries of the history were taken.
-pub fn took_others(parts: &Parts, region: &RegionHandles, from: u64, to: u64) -> GhostValue<States>
+/// What was taken of the region's history since then is taken of the state too.
+pub fn taken(parts: &Parts, before: &GhostValue<Moments>) -> GhostValue<States>
     ensures { result.value
-        ≡ took (state_of parts.now) (entries_between from to region.now) }
+        ≡ with_taken before.now.value parts.now.region.taken parts.now.cycle.rest }
 {
-    GhostValue::chosen(&AboutOthers {
-        parts,
-        region,
-        from,
-        to,
-    })
-}
-
-/// What an order looks at.
-#[derive(Drop)]
-struct AboutOrder<'a> {
-    parts: &'a Parts,
-    thread: u32,
-    order: Order,
-}
-
-/// The order waits for its thread.
-pub fn queued(parts: &Parts, thread: u32, order: Order) -> GhostValue<States>
-    ensures { result.value ≡ queued (state_of parts.now) thread order }
-{
-    GhostValue::chosen(&AboutOrder {
-        parts,
-        thread,
-        order,
-    })
-}
-
-/// The threads that have orders went.
-pub fn going(parts: &Parts) -> GhostValue<States>
-    ensures { result.value ≡ going (state_of parts.now) }
-{
-    GhostValue::chosen(parts)
-}
-
-/// The threads that went were joined.
-pub fn joined(parts: &Parts) -> GhostValue<States>
-    ensures { result.value ≡ joined (state_of parts.now) }
-{
-    GhostValue::chosen(parts)
+    GhostValue::chosen(&AboutTaking { parts, before })
 }
 
 /// Marking began in this state.
@@ -145,15 +112,25 @@ pub fn begun(parts: &Parts) -> GhostValue<States>
 /// What the end of a pause looks at.
 #[derive(Drop)]
 struct AboutPause<'a> {
-    objects: &'a Objects,
+    region: &'a OwnedRegion,
     rest: &'a GhostValue<States>,
+    before: &'a GhostValue<Moments>,
 }
 
-/// The pause of a cycle is over, which left these objects.
-pub fn paused(objects: &Objects, rest: &GhostValue<States>) -> GhostValue<States>
-    ensures { result.value ≡ paused_from objects.now.nodes rest.now.value }
+/// The pause of a cycle is over, and with it what was taken since then is taken of the state.
+pub fn paused(
+    region: &OwnedRegion,
+    rest: &GhostValue<States>,
+    before: &GhostValue<Moments>,
+) -> GhostValue<States>
+    ensures { result.value
+        ≡ paused_from (with_taken before.now.value region.now.taken rest.now.value) }
 {
-    GhostValue::chosen(&AboutPause { objects, rest })
+    GhostValue::chosen(&AboutPause {
+        region,
+        rest,
+        before,
+    })
 }
 
 /// What a new object looks at.

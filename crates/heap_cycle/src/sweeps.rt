@@ -23,6 +23,7 @@ pub fn sweep_some(parts: &mut Parts, outcome: &mut Outcome, n: u32) -> Line
     ensures step { StepSweep (setup_of parts.old) (state_of parts.old) n
         (lines_with outcome.new parts.new.cycle.ran result) (answered (state_of parts.new)) }
     ensures frame { IsFrame parts.old (counted parts.new) result }
+    ensures region { parts.new.region ≡ parts.old.region }
     ensures calm { outcome.new.prefinalises ≡ false }
     ensures room { outcome.new.room ≡ outcome.old.room }
 {
@@ -46,6 +47,7 @@ pub fn sweep_all(parts: &mut Parts, outcome: &mut Outcome) -> Line
     ensures step { StepSweepAll (setup_of parts.old) (state_of parts.old)
         (lines_with outcome.new parts.new.cycle.ran result) (answered (state_of parts.new)) }
     ensures frame { IsFrame parts.old (counted parts.new) result }
+    ensures region { parts.new.region ≡ parts.old.region }
     ensures calm { outcome.new.prefinalises ≡ false }
     ensures room { outcome.new.room ≡ outcome.old.room }
 {
@@ -76,6 +78,7 @@ fn sweep_pages(parts: &mut Parts, finalised: &mut Vec<u32>, n: u32)
     ensures grey { parts.new.objects.grey ≡ parts.old.objects.grey }
     ensures manned { IsManned parts.old → IsManned parts.new }
     ensures ordinal { parts.new.cycle.rest.ordinal ≡ parts.old.cycle.rest.ordinal }
+    ensures region { parts.new.region ≡ parts.old.region }
     ensures many { length finalised.new.items ≤ 2 ^ 24 }
     ensures room { vec_capacity finalised.new ≡ vec_capacity finalised.old }
 {

@@ -1,4 +1,4 @@
-use Rattle.heap_cycle.proofs.CrewSteps.{has_manned, none_manned}
+use Rattle.heap_cycle.proofs.CrewSteps.{has_manned}
 use Rattle.heap_cycle.proofs.crew.man.Goals as goal
 
 pub returns-in-Some : goal.returns-in-Some

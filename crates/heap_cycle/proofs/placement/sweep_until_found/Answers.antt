@@ -18,6 +18,7 @@ loop-page-init c = record {
   cursor = sym c.swept_pages-page.ensures;
   grey = refl;
   registered = refl;
+  region = refl;
   room = refl;
 }
 
@@ -84,6 +85,7 @@ loop-page-preserved c =
       cursor = omega (arith, cursor, c.loop-page.invariant.cursor);
       grey = ap (λ (o : ObjectsView). o.grey) c.find.ensures.same ∙ c.sweep_page.ensures.swept.grey ∙ c.loop-page.invariant.grey;
       registered = c.sweep_page.ensures.swept.registered ∙ c.loop-page.invariant.registered;
+      region = c.loop-page.invariant.region;
       room = c.sweep_page.ensures.room ∙ c.loop-page.invariant.room;
     }
 

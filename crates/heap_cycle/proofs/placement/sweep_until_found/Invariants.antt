@@ -9,5 +9,6 @@ invariant-loop-page l = record {
   cursor : l.parts.cycle.sweep.cursor ≡ l.page;
   grey : l.parts.objects.grey ≡ l.initial.parts.objects.grey;
   registered : l.parts.cycle.registered ≡ l.initial.parts.cycle.registered;
+  region : l.parts.region ≡ l.initial.parts.region;
   room : vec_capacity l.finalised ≡ vec_capacity l.initial.finalised;
 }

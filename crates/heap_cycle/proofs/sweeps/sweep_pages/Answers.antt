@@ -32,6 +32,7 @@ loop-page-init c =
       grey = refl;
       setup = refl;
       ordinal = refl;
+      region = refl;
       room = refl;
     }
 
@@ -63,6 +64,7 @@ loop-page-preserved c =
       grey = is.grey ∙ c.loop-page.invariant.grey;
       setup = is.setup ∙ c.loop-page.invariant.setup;
       ordinal = ap (λ (st : State). st.ordinal) is.rest ∙ c.loop-page.invariant.ordinal;
+      region = c.loop-page.invariant.region;
       room = c.sweep_page.ensures.room ∙ c.loop-page.invariant.room;
     }
 

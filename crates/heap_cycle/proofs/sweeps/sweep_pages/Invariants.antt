@@ -14,5 +14,6 @@ invariant-loop-page l = record {
   grey : l.parts.objects.grey ≡ l.initial.parts.objects.grey;
   setup : setup_of l.parts ≡ setup_of l.initial.parts;
   ordinal : l.parts.cycle.rest.ordinal ≡ l.initial.parts.cycle.rest.ordinal;
+  region : l.parts.region ≡ l.initial.parts.region;
   room : vec_capacity l.finalised ≡ vec_capacity l.initial.finalised;
 }
