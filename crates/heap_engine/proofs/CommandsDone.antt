@@ -1,6 +1,9 @@
 -- From what a function says of its line to what is owed of the command that it does.
-use Rattle.std.proofs.Common.{arith, inl, inr, ◌≡◌, ℕ, ◌<◌, ◌≤◌, true, false, List, [], ◌∷◌, length, Some, refl, sym, ap, ◌∙◌, subst}
+use Rattle.std.proofs.Common.{arith, inl, inr, ◌≡◌, ℕ, ◌<◌, ◌≤◌, true, false, List, [], ◌∷◌, length, Some, All, refl, sym, ap, ◌∙◌, subst}
+use Rattle.std.proofs.Math.Seq.{take-length}
 use Rattle.std.proofs.lemmas.Bool.{true≢false}
+use Rattle.std.proofs.lemmas.List.Elements.{All-nil}
+use Rattle.std.specs.List.{Contains}
 use Rattle.gc_graph.specs.declared.command.Command.{Command}
 use Rattle.gc_graph.specs.declared.command.Command.TheVariants as C
 use Rattle.gc_graph.specs.declared.line.Line.{Line}
@@ -9,24 +12,23 @@ use Rattle.gc_graph.specs.HistoryLaw.{StepsFollow}
 use Rattle.gc_graph.specs.Lawful.{IsAllowed}
 use Rattle.gc_graph.specs.OnceLaw.{NodesStayPut}
 use Rattle.gc_graph.specs.Outcomes.{answered}
+use Rattle.gc_graph.specs.State.{State}
 use Rattle.gc_graph.specs.Step.{Step}
-use Rattle.gc_graph.specs.ThreadLaw.{StepsLeaveThreads, is_of_threads}
+use Rattle.gc_graph.specs.ThreadLaw.{is_of_threads}
+use Rattle.heap_cycle.specs.Calls.{TakesMore}
 use Rattle.heap_cycle.specs.Cycles.{AreSlotsMarked}
 use Rattle.heap_cycle.specs.declared.parts.Parts.{Parts}
-use Rattle.heap_cycle.specs.declared.shared.Shared.{Shared}
 use Rattle.heap_cycle.specs.Handles.{HandlesView}
-use Rattle.heap_cycle.specs.Parts.{AreTied, counted, setup_of, state_of, IsFrame}
+use Rattle.heap_cycle.specs.Owned.{OwnedView, IsToldLine, piece_of}
+use Rattle.heap_cycle.specs.Parts.{AreTied, counted, setup_of, state_of, IsFrame, IsReady}
 use Rattle.heap_cycle.specs.Printed.{Printed, lines_with, TellsThoseThatRan}
 use Rattle.heap_cycle.specs.Region.{HasRegion}
-use Rattle.heap_cycle.specs.Shared.{HasShared, MayTake, piece_of, taken_of}
-use Rattle.heap_engine.specs.CarriedOut.{IsAsked, IsCarriedOut, IsCommandDone, IsDoneAlone, TellsNothing, leaves_region}
+use Rattle.heap_engine.specs.CarriedOut.{HandsTotals, IsAsked, IsCarriedOut, IsCommandDone, IsDoneAlone, LeavesRegion, TellsNothing, leaves_region}
 use Rattle.heap_engine.specs.declared.heap_core.Core.TheInside.{Inside}
 use Rattle.heap_engine.specs.Ended.{last_line, IsEnded}
-use Rattle.heap_engine.specs.Going.{HasTold}
 use Rattle.heap_engine.specs.Sound.{IsSound}
 use Rattle.heap_engine.proofs.OutcomeLines.{ended_alone}
-use Rattle.heap_engine.proofs.RegionAlone.{none_made}
-use Rattle.heap_engine.proofs.ThreadsKept.{alone_calm, alone_kept, no_join_of, shared_kept, shared_quiet, told_quiet}
+use Rattle.heap_engine.proofs.RegionAlone.{none_made, region_alone}
 
 -- it is no step of a cycle
 abbrev pub IsNoStep : Command → Type 0
@@ -44,13 +46,14 @@ last_is before o line is = ap last_line is
 module _ (command : Command) (s new : Parts) (before o : Printed) (line : Line) (is : o ≡ record before { last = Some line }) where
   -- a command that answers one line, and leaves the region alone
   pub line_done : TellsNothing before → Step (setup_of s) (state_of s) command [] (line ∷ []) (answered (state_of new))
-      → IsFrame s (counted new) line → leaves_region command ≡ true → IsNoStep command → IsDoneAlone command s new before o
-  line_done nothing step frame alone other = record {
+      → IsFrame s (counted new) line → new.region ≡ s.region → leaves_region command ≡ true → IsNoStep command → IsDoneAlone command s new before o
+  line_done nothing step frame region alone other = record {
     alone = alone;
     ended = line_ends before o line is;
     step = subst (λ ls. Step (setup_of s) (state_of s) command [] ls (answered (state_of new)))
         (sym (ended_alone before o new.cycle.ran line is nothing.numbers nothing.calm)) step;
     frame = subst (IsFrame s (counted new)) (sym (last_is before o line is)) frame;
+    region = region;
     ran = λ runs. absurd (true≢false (sym runs ∙ (ap (λ (p : Printed). p.prefinalises) is ∙ nothing.calm)));
     done = λ n t step told. absurd (other n step);
     took = λ n step some. absurd (other n step);
@@ -59,12 +62,13 @@ module _ (command : Command) (s new : Parts) (before o : Printed) (line : Line) 
 
   -- the same, where it tells what it finalises before
   pub lines_done : (begun : Printed) → before.prefinalises ≡ false → before.room ≡ begun.room → Step (setup_of s) (state_of s) command [] (lines_with before new.cycle.ran line) (answered (state_of new))
-      → IsFrame s (counted new) line → leaves_region command ≡ true → IsNoStep command → IsDoneAlone command s new begun o
-  lines_done begun calm room step frame alone other = record {
+      → IsFrame s (counted new) line → new.region ≡ s.region → leaves_region command ≡ true → IsNoStep command → IsDoneAlone command s new begun o
+  lines_done begun calm room step frame region alone other = record {
     alone = alone;
     ended = line_ends before o line is;
     step = rw is step;
     frame = subst (IsFrame s (counted new)) (sym (last_is before o line is)) frame;
+    region = region;
     ran = λ runs. absurd (true≢false (sym runs ∙ (ap (λ (p : Printed). p.prefinalises) is ∙ calm)));
     done = λ n t step told. absurd (other n step);
     took = λ n step some. absurd (other n step);
@@ -85,63 +89,137 @@ handles_done command s before o handles changed is nothing same tied step alone 
       refused = record { since = refl; still = λ calm. refl };
     } in
     subst (λ (h : HandlesView). IsDoneAlone command s (record s { handles = h }) before o) (sym same)
-    (line_done command s (record s { handles = changed }) before o L.Fine is nothing step frame alone other)
+    (line_done command s (record s { handles = changed }) before o L.Fine is nothing step frame refl alone other)
 
 -- ---- the region
 
--- a command that leaves the region alone was carried out
-pub alone_done : (command : Command) (s new : Parts) (h : Shared) (begun o : Printed) → StepsFollow → StepsLeaveThreads → NodesStayPut → 0 < s.objects.shape.pages
-    → IsAllowed (length s.objects.types) command → IsAsked s h begun → IsDoneAlone command s new begun o → IsCarriedOut command s h new h begun o
-alone_done command s new h begun o follow leave stay some allowed asked done = record {
-  other = no_join_of command (alone_calm command done.alone);
-  ended = done.ended;
-  step = rw (none_made (taken_of h)) done.step;
-  frame = done.frame;
-  region = alone_kept s new h command _ follow leave stay some allowed done.alone asked.ready asked.shared asked.told asked.quiet done.step done.frame.ordinal;
-  ran = done.ran;
-  marked = λ start told. absurd (true≢false (sym done.alone ∙ ap leaves_region start));
-  done = done.done;
-  took = done.took;
-  room = done.room;
-}
+-- a command other than `threads go` hands the totals of before
+still_handed : (command : Command) (s : State) (old new : OwnedView) → is_of_threads command ≡ false → new.totals ≡ old.totals → new.awaiting ≡ old.awaiting
+    → HandsTotals command s old new
+still_handed C.ThreadsGo s old new other same still = absurd (true≢false other)
+still_handed _ s old new other same still = (same, λ awaits. sym still ∙ awaits)
 
--- a command that took what was ahead, and entries of its own, or nothing
-pub taking_done : (command : Command) (s new : Parts) (h after : Shared) (begun before o : Printed) (line : Line) (lines : List Line) → o ≡ record before { last = Some line }
-    → lines_with before new.cycle.ran line ≡ lines → StepsFollow → StepsLeaveThreads → is_of_threads command ≡ false → IsNoStep command
-    → IsAsked s h begun → HasRegion new (taken_of after) → MayTake h after
-    → Step (setup_of s) (state_of s) command (piece_of h after) lines (answered (state_of new)) → IsFrame s (counted new) line → TellsThoseThatRan before new.cycle.ran → before.room ≡ begun.room
-    → (command ≡ C.GcStart → line ≡ L.Started → AreSlotsMarked new (taken_of after)) → IsCarriedOut command s h new after begun o
-taking_done command s new h after begun before o line lines is told follow leave other no_step asked region may step frame ran room marked = record {
-  other = no_join_of command other;
-  ended = line_ends before o line is;
-  step = rw (is, told) step;
-  frame = subst (IsFrame s (counted new)) (sym (last_is before o line is)) frame;
-  region = shared_kept s new h after command lines follow leave other asked.shared asked.told asked.quiet region may step frame.ordinal;
-  ran = rw is ran;
-  marked = λ start last. marked start (sym (last_is before o line is) ∙ last);
-  done = λ n t step told. absurd (no_step n step);
-  took = λ n step some. absurd (no_step n step);
-  room = ap (λ (p : Printed). p.room) is ∙ room;
-}
+alone_calm : (command : Command) → leaves_region command ≡ true → is_of_threads command ≡ false
+alone_calm (C.At j order) is = absurd (true≢false (sym is))
+alone_calm C.ThreadsGo is = absurd (true≢false (sym is))
+alone_calm C.ThreadsJoin is = absurd (true≢false (sym is))
+alone_calm _ is = refl
+
+pub none_there : (lines : List Line) (told : Line) → lines ≡ [] → Contains lines told → ⊥
+none_there lines told none there = (let w : Contains [] told = subst (λ ls. Contains ls told) none there in omega (arith, w.1))
+
+pub none_in : (lines : List Line) (P : Line → Type 0) → lines ≡ [] → All P lines
+none_in lines P none = subst (All P) (sym none) (All-nil P)
+
+-- what a command leaves that took entries of the history, or none, and is none on threads
+pub leaves_more : (command : Command) (s new : Parts) (o begun : Printed) → is_of_threads command ≡ false → IsAsked s begun → HasRegion new → TakesMore s.region new.region
+    → LeavesRegion command s new o
+leaves_more command s new o begun other asked region more =
+    let told : new.region.told ≡ [] = more.told asked.quiet in
+    record {
+      region = region;
+      begins = more.begins;
+      room = more.room;
+      none_out = λ still. ap (λ (v : OwnedView). v.out) more.rest ∙ asked.none_out (sym (ap (λ (v : OwnedView). v.awaiting) more.rest) ∙ still);
+      handed = still_handed command (state_of s) s.region new.region other (ap (λ (v : OwnedView). v.totals) more.rest) (ap (λ (v : OwnedView). v.awaiting) more.rest);
+      replies = none_in new.region.told IsToldLine told;
+      joined = inl told;
+      of_join = λ join. absurd (true≢false (ap is_of_threads (sym join) ∙ other));
+      totals = λ j a n u f there. absurd (none_there new.region.told (L.ReplyTotals j a n u f) told there);
+    }
+
+-- a region that is as it was takes nothing
+pub takes_none : (old new : OwnedView) → new ≡ old → TakesMore old new
+takes_none old new same = subst (TakesMore old) (sym same) (record { begins = take-length old.taken; room = omega arith; told = λ none. none; rest = refl })
+
+-- a command that leaves the region alone was carried out
+pub alone_done : (command : Command) (s new : Parts) (begun o : Printed) → StepsFollow → NodesStayPut → 0 < s.objects.shape.pages
+    → IsAllowed (length s.objects.types) command → IsAsked s begun → IsDoneAlone command s new begun o → IsCarriedOut command s new begun o
+alone_done command s new begun o follow stay some allowed asked done =
+    let told : new.region.told ≡ [] = ap (λ (v : OwnedView). v.told) done.region ∙ asked.quiet in
+    let none : piece_of s.region new.region ≡ [] = ap (λ (v : OwnedView). piece_of s.region v) done.region ∙ none_made s.region.taken in
+    record {
+      ended = done.ended;
+      step = rw (none, told) done.step;
+      frame = done.frame;
+      region = leaves_more command s new o begun (alone_calm command done.alone) asked
+          (region_alone s new command _ follow stay some allowed asked.ready asked.region done.region done.step) (takes_none s.region new.region done.region);
+      ran = done.ran;
+      marked = λ start told. absurd (true≢false (sym done.alone ∙ ap leaves_region start));
+      done = done.done;
+      took = done.took;
+      room = done.room;
+    }
+
+-- a command that took what it found, and entries of its own, or nothing
+pub taking_done : (command : Command) (s new : Parts) (begun before o : Printed) (line : Line) (lines : List Line) → o ≡ record before { last = Some line }
+    → lines_with before new.cycle.ran line ≡ lines → is_of_threads command ≡ false → IsNoStep command → IsAsked s begun → HasRegion new → TakesMore s.region new.region
+    → Step (setup_of s) (state_of s) command (piece_of s.region new.region) lines (answered (state_of new)) → IsFrame s (counted new) line → TellsThoseThatRan before new.cycle.ran
+    → before.room ≡ begun.room → (command ≡ C.GcStart → line ≡ L.Started → AreSlotsMarked new new.region.taken) → IsCarriedOut command s new begun o
+taking_done command s new begun before o line lines is told other no_step asked region more step frame ran room marked =
+    let quiet : new.region.told ≡ [] = more.told asked.quiet in
+    record {
+      ended = line_ends before o line is;
+      step = rw (quiet, is, told) step;
+      frame = subst (IsFrame s (counted new)) (sym (last_is before o line is)) frame;
+      region = leaves_more command s new o begun other asked region more;
+      ran = rw is ran;
+      marked = λ start last. marked start (sym (last_is before o line is) ∙ last);
+      done = λ n t step told. absurd (no_step n step);
+      took = λ n step some. absurd (no_step n step);
+      room = ap (λ (p : Printed). p.room) is ∙ room;
+    }
 
 -- after it, no more prefinalizers ran than commands can have registered
-pub few_ran : (command : Command) (s new : Parts) (h after : Shared) (begun o : Printed) → IsCommandDone command s h new after begun o → s.cycle.rest.ordinal < 1000000
-    → length new.cycle.ran ≤ 16000000
-few_ran command s new h after begun o (inl alone) few = omega (arith, alone.0.frame.tied.few, alone.0.frame.ordinal, few)
-few_ran command s new h after begun o (inr (inl done)) few = omega (arith, done.frame.tied.few, done.frame.ordinal, few)
-few_ran command s new h after begun o (inr (inr join)) few = omega (arith, join.1.tied.few, join.1.ordinal, few)
+pub few_ran : (command : Command) (s new : Parts) (begun o : Printed) → IsCarriedOut command s new begun o → s.cycle.rest.ordinal < 1000000 → length new.cycle.ran ≤ 16000000
+few_ran command s new begun o done few = omega (arith, done.frame.tied.few, done.frame.ordinal, few)
 
 -- ---- what a heap between commands asks
 
 -- once the last command tells nothing more, and the outcome has begun, a command may be done
-pub asked_of : (h : Inside) (quiet : Shared) (begun : Printed) → IsSound h → h.closed ≡ false → quiet ≡ record h.shared { telling = false }
-    → begun ≡ record h.outcome { numbers = []; prefinalises = false } → IsAsked h.parts quiet begun
-asked_of h quiet begun sound opened is empty = record {
-  ready = sound.ready opened;
-  shared = subst (HasShared h.parts) (sym is) (shared_quiet h.parts h.shared sound.shared);
-  told = subst HasTold (sym is) (told_quiet h.shared sound.replies);
-  quiet = ap (λ (x : Shared). x.telling) is;
-  counted = sound.counted;
-  nothing = record { numbers = ap (λ (o : Printed). o.numbers) empty; calm = ap (λ (o : Printed). o.prefinalises) empty };
-  room = omega (arith, sound.room, ap (λ (o : Printed). o.room) empty);
-}
+pub asked_of : (h : Inside) (quiet : OwnedView) (begun : Printed) → IsSound h → h.closed ≡ false → quiet ≡ record h.parts.region { told = [] }
+    → begun ≡ record h.outcome { numbers = []; prefinalises = false } → IsAsked (record h.parts { region = quiet }) begun
+asked_of h quiet begun sound opened is empty =
+    let region : HasRegion h.parts = sound.region opened in
+    subst (λ (v : OwnedView). IsAsked (record h.parts { region = v }) begun) (sym is) (record {
+      ready = still_ready h.parts (sound.ready opened);
+      region = record { opened = region.opened; placed = region.placed; started = region.started };
+      quiet = refl;
+      none_out = sound.none_out;
+      counted = sound.counted;
+      nothing = record { numbers = ap (λ (o : Printed). o.numbers) empty; calm = ap (λ (o : Printed). o.prefinalises) empty };
+      room = omega (arith, sound.room, ap (λ (o : Printed). o.room) empty);
+    })
+  where
+    still_ready : (s : Parts) → IsReady s → IsReady (record s { region = record s.region { told = [] } })
+    still_ready s ready = record {
+      valid = ready.valid;
+      called = ready.called;
+      tied = record {
+        slots = ready.tied.slots;
+        weak = ready.tied.weak;
+        stack = ready.tied.stack;
+        registered = ready.tied.registered;
+        few = ready.tied.few;
+        sweep = ready.tied.sweep;
+        marks = ready.tied.marks;
+        traced = ready.tied.traced;
+        made = ready.tied.made;
+      };
+      most = ready.most;
+    }
+
+-- the parts as a command finds them: the last one tells nothing more
+abbrev pub quiet : Parts → Parts
+quiet s = record s { region = record s.region { told = [] } }
+
+-- what was done was carried out
+pub carried_out : (command : Command) (h : Inside) (found : OwnedView) (begun : Printed) (new : Parts) (o : Printed) → StepsFollow → NodesStayPut
+    → 0 < h.parts.objects.shape.pages → IsAllowed (length h.parts.objects.types) command → IsSound h → h.closed ≡ false
+    → found ≡ record h.parts.region { told = [] } → begun ≡ record h.outcome { numbers = []; prefinalises = false }
+    → IsCommandDone command (record h.parts { region = found }) new begun o → IsCarriedOut command (quiet h.parts) new begun o
+carried_out command h found begun new o follow stay some allowed sound opened is empty done =
+    elim (subst (λ (v : OwnedView). IsCommandDone command (record h.parts { region = v }) new begun o) is done) [
+      | inl alone ↦ alone_done command (quiet h.parts) new begun o follow stay some allowed (asked_of h (record h.parts.region { told = [] }) begun sound opened refl empty) alone
+      | inr carried ↦ carried
+    ]

@@ -6,7 +6,7 @@ use Rattle.std.proofs.lemmas.List.Sums.{sum_by-cons}
 use Rattle.std.proofs.Common.{◌≡◌, ℕ, zero, suc, ◌+◌, List, [], ◌∷◌, length, replicate, None, refl, sym, ap, ◌∙◌, subst, arith}
 use Rattle.gc_graph.specs.declared.action.ActionKind.{ActionKind}
 use Rattle.gc_graph.specs.declared.phase.Phase.TheVariants.{Idle}
-use Rattle.gc_graph.specs.State.{ObjectType, Shape, State, empty_state}
+use Rattle.gc_graph.specs.State.{ObjectType, Shape, empty_state}
 use Rattle.gc_graph.specs.ThreadLaw.{IsCounted}
 use Rattle.gc_graph.specs.ValidLaw.{EmptyIsValid}
 use Rattle.cross_thread_region.specs.Histories.{slots_of}
@@ -24,9 +24,7 @@ use Rattle.heap_cycle.specs.Views.{CycleView}
 use Rattle.heap_cycle.specs.Parts.{setup_of, state_of, IsManned, IsReady}
 use Rattle.heap_cycle.specs.Ties.{manned_calm}
 use Rattle.heap_cycle.specs.Region.{HasRegion}
-use Rattle.heap_cycle.specs.Shared.{HasShared, no_shared}
-use Rattle.heap_cycle.specs.declared.shared.Shared.{Shared}
-use Rattle.heap_engine.specs.Going.{AreTotalsOf, HasTold}
+use Rattle.heap_cycle.specs.Owned.{OwnedView, nothing_owned}
 use Rattle.heap_engine.specs.View.{no_refusals}
 
 null_places : (n : ℕ) → replicate n None ≡ places_of_slots [] (replicate n None)
@@ -39,15 +37,16 @@ empty_parts heap shape markers types callbacks = record {
   objects = record { shape = shape; types = types; callbacks = callbacks; nodes = []; seat = empty_view heap types; grey = no_grey markers };
   handles = record { places = replicate 256 None; slots = replicate 256 None; weak_places = replicate 64 None; weak = replicate 64 None; stack = empty_stack };
   cycle = record { phase = Idle; sweep = record { pages = shape.pages; cursor = shape.pages }; registered = []; ran = []; rest = empty_state };
+  region = nothing_owned;
 }
 
 -- each of them is what it is in an empty heap
 pub parts_empty : (s : Parts) (heap : Heap) (shape : Shape) (markers : ℕ) (types : List ObjectType) (callbacks : List ActionKind) → s.objects ≡ (empty_parts heap shape markers types callbacks).objects
-    → s.handles ≡ (empty_parts heap shape markers types callbacks).handles → s.cycle ≡ (empty_parts heap shape markers types callbacks).cycle → s ≡ empty_parts heap shape markers types callbacks
-parts_empty s heap shape markers types callbacks objects handles cycle =
+    → s.handles ≡ (empty_parts heap shape markers types callbacks).handles → s.cycle ≡ (empty_parts heap shape markers types callbacks).cycle → s.region ≡ nothing_owned → s ≡ empty_parts heap shape markers types callbacks
+parts_empty s heap shape markers types callbacks objects handles cycle region =
     let none : Parts = empty_parts heap shape markers types callbacks in
     ap (λ (x : ObjectsView). record s { objects = x }) objects ∙ ap (λ (x : HandlesView). record s { objects = none.objects; handles = x }) handles
-    ∙ ap (λ (x : CycleView). record none { cycle = x }) cycle
+    ∙ ap (λ (x : CycleView). record none { cycle = x; region = s.region }) cycle ∙ ap (λ (x : OwnedView). record none { region = x }) region
 
 -- no note was refused in groups in which nothing is noted
 none_counted : (n : ℕ) → sum_by (λ (x : NotesState). x.refused) (replicate n no_notes) ≡ 0
@@ -100,42 +99,13 @@ ready_empty s heap shape markers types callbacks law called is =
     } in
     subst IsReady (sym is) ready
 
--- a region without entries is an empty heap's, with threads that have no orders
-pub shared_empty : (s : Parts) (heap : Heap) (shape : Shape) (markers : ℕ) (types : List ObjectType) (callbacks : List ActionKind) (h : Shared) → s ≡ empty_parts heap shape markers types callbacks → h ≡ no_shared
-    → HasShared s h
-shared_empty s heap shape markers types callbacks h is none =
-    let region : HasRegion (empty_parts heap shape markers types callbacks) [] =
-    record { slots = refl; placed = λ x n named. absurd (omega (arith, (named_is_target (slots_of []) x n named).1)); started = refl } in
-    let new : HasShared (empty_parts heap shape markers types callbacks) no_shared = record {
-      region = region;
-      ahead = record { others = λ k d low. absurd (omega arith); legal = tt };
-      threads = record {
-        queues = refl;
-        running = refl;
-        awaiting = refl;
-        unprinted = refl;
-        printed = omega arith;
-        taken = omega arith;
-        owners = λ still k d low. absurd (omega arith);
-        calm = λ still. refl;
-        idle = λ still. refl;
-        answered = λ awaits. cc;
-        few = omega arith;
-        few_replies = omega arith;
-      };
-    } in
-    subst (λ (x : Shared). HasShared s x) (sym none) (subst (λ (p : Parts). HasShared p no_shared) (sym is) new)
-
--- its threads were told nothing
-pub told_empty : (h : Shared) → h ≡ no_shared → HasTold h
-told_empty h none =
-    let calm : HasTold no_shared = record { replies = λ k d low. absurd (omega (arith, low)); shown = omega arith } in
-    subst HasTold (sym none) calm
-
-pub no_totals : (s : State) (h : Shared) → h ≡ no_shared → AreTotalsOf s h.threads.replies
-no_totals s h none =
-    let calm : AreTotalsOf s [] = λ j o n u f there. absurd (omega (arith, there.1)) in
-    subst (λ (x : Shared). AreTotalsOf s x.threads.replies) (sym none) calm
+-- its region belongs to it
+pub region_empty : (s : Parts) (heap : Heap) (shape : Shape) (markers : ℕ) (types : List ObjectType) (callbacks : List ActionKind) → s ≡ empty_parts heap shape markers types callbacks
+    → HasRegion s
+region_empty s heap shape markers types callbacks is =
+    let region : HasRegion (empty_parts heap shape markers types callbacks) =
+    record { opened = refl; placed = λ x n named. absurd (omega (arith, (named_is_target (slots_of []) x n named).1)); started = refl } in
+    subst HasRegion (sym is) region
 
 -- nothing is counted
 pub counted_empty : (s : Parts) (heap : Heap) (shape : Shape) (markers : ℕ) (types : List ObjectType) (callbacks : List ActionKind) → s ≡ empty_parts heap shape markers types callbacks → IsCounted (state_of s)

@@ -53,7 +53,7 @@ slot_holds slots p n is =
 pub slot_kept : (s : Parts) (p n : ℕ) → IsReady s → get_or s.handles.slots p None ≡ Some n → MayKeep s.objects.seat (place_of s.objects.nodes n)
 slot_kept s p n ready slot =
     let root : IsAmong (roots_of (state_of s)) n =
-    among_left (slot_targets s.handles.slots ++ stack_targets s.handles.stack.words) (strong_region_targets s.cycle.rest.region) n
+    among_left (slot_targets s.handles.slots ++ stack_targets s.handles.stack.words) (strong_region_targets (state_of s).region) n
     (among_left (slot_targets s.handles.slots) (stack_targets s.handles.stack.words) n (root_of_slot s.handles.slots n (slot_holds s.handles.slots p n slot))) in
     kept_at s.cycle.phase (cursor_at s.objects.shape s.cycle.sweep) s.cycle.rest.may s.objects n ready.tied.marks
     (root_kept (state_of s) n ready.valid.may_kept root) (slot_live s p ready n slot)

@@ -13,7 +13,7 @@ use Rattle.gc_graph.specs.Graph.{IsWithin}
 use Rattle.gc_graph.specs.Members.{Contains-cons_cases, Contains-map, in_from_holds}
 use Rattle.gc_graph.specs.Outcomes.{finalise_lines}
 use Rattle.gc_graph.specs.Reach.{HoldsAll}
-use Rattle.gc_graph.specs.State.{State, Node, IsLive, slot_targets, strong_region_targets}
+use Rattle.gc_graph.specs.State.{State, Node, IsLive, slot_targets, strong_region_targets, RegionSlot}
 use Rattle.gc_graph.specs.Valid.{AreLive, IsValid, region_targets}
 use Rattle.cross_thread_region.specs.declared.chronicle.PlacedEntry.{PlacedEntry}
 use Rattle.cross_thread_region.specs.PlacedNodes.{strong_target_placed, strong_target_is_target}
@@ -80,21 +80,22 @@ slots_marked s history tied live marked n root =
     kept_from (holds s.objects.seat.marked) nodes n (slot_node_live nodes s.handles.slots n live slot) (marked.slots (place_of nodes n) place)
 
 -- and so is what the region's do
-shared_marked : (s : Parts) (history : List PlacedEntry) → HasRegion s history → AreLive s.objects.nodes (region_targets s.cycle.rest.region) → AreSlotsMarked s history
-    → HoldsAll (kept_of (holds s.objects.seat.marked) s.objects.nodes) (strong_region_targets s.cycle.rest.region)
-shared_marked s history region live marked n root =
+shared_marked : (s : Parts) → HasRegion s → AreLive s.objects.nodes (region_targets (state_of s).region) → AreSlotsMarked s s.region.taken
+    → HoldsAll (kept_of (holds s.objects.seat.marked) s.objects.nodes) (strong_region_targets (state_of s).region)
+shared_marked s region live marked n root =
     let nodes : List Node = s.objects.nodes in
-    let strong : Contains (strong_region_targets s.cycle.rest.region) n = in_from_holds (strong_region_targets s.cycle.rest.region) n root in
-    let slot = strong_target_placed (place_of nodes) history n region.placed (subst (λ slots. Contains (strong_region_targets slots) n) region.slots strong) in
+    let slots : List RegionSlot = (state_of s).region in
+    let strong : Contains (strong_region_targets slots) n = in_from_holds (strong_region_targets slots) n root in
+    let slot = strong_target_placed (place_of nodes) s.region.taken n region.placed strong in
     kept_from (holds s.objects.seat.marked) nodes n
-    (All-contains (IsLive nodes) (region_targets s.cycle.rest.region) n live (strong_target_is_target s.cycle.rest.region n strong)) (marked.shared slot.0 (place_of nodes n) slot.1)
+    (All-contains (IsLive nodes) (region_targets slots) n live (strong_target_is_target slots n strong)) (marked.shared slot.0 (place_of nodes n) slot.1)
 
-pub roots_marked : (s : Parts) (history : List PlacedEntry) → AreTied s → IsValid (setup_of s) (state_of s) → HasRegion s history → AreSlotsMarked s history
-    → HoldsAll (kept_of (holds s.objects.seat.marked) s.objects.nodes) (slot_targets s.handles.slots ++ strong_region_targets s.cycle.rest.region)
-roots_marked s history tied valid region marked n root =
-    elim (among_cases (slot_targets s.handles.slots) (strong_region_targets s.cycle.rest.region) n root) [
-      | inl slot ↦ slots_marked s history tied valid.slots marked n slot
-      | inr shared ↦ shared_marked s history region valid.region marked n shared
+pub roots_marked : (s : Parts) → AreTied s → IsValid (setup_of s) (state_of s) → HasRegion s → AreSlotsMarked s s.region.taken
+    → HoldsAll (kept_of (holds s.objects.seat.marked) s.objects.nodes) (slot_targets s.handles.slots ++ strong_region_targets (state_of s).region)
+roots_marked s tied valid region marked n root =
+    elim (among_cases (slot_targets s.handles.slots) (strong_region_targets (state_of s).region) n root) [
+      | inl slot ↦ slots_marked s s.region.taken tied valid.slots marked n slot
+      | inr shared ↦ shared_marked s region valid.region marked n shared
     ]
 
 -- ---- a step

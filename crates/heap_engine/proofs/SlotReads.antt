@@ -79,6 +79,7 @@ weak_read s mid target state tied nodes setup grey others ordinal = record {
   setup = setup;
   grey = grey;
   handles = ap (λ (x : Parts). x.handles) others;
+  region = ap (λ (x : Parts). x.region) others;
   ordinal = ordinal;
 }
 

@@ -42,7 +42,8 @@ abbrev pub after_read : Bool → State → Option ℕ → State
 after_read weak s None = s
 after_read weak s (Some n) = read_node weak s n
 
--- a read, weak or not, gave the target: what it may keep is kept, the parts stay tied, and no node, no slot and nothing of marking changes
+-- a read, weak or not, gave the target: what it may keep is kept, the parts stay tied, and no node, no slot, nothing of marking and nothing
+-- of the region changes
 pub record HasRead (weak : Bool) (old new : Parts) (target : Option (ℕ × ℕ)) : Type 0 where
   pub state : state_of new ≡ after_read weak (state_of old) (option_map (λ t. t.1) target)
   pub tied : AreTied new
@@ -50,4 +51,5 @@ pub record HasRead (weak : Bool) (old new : Parts) (target : Option (ℕ × ℕ)
   pub setup : setup_of new ≡ setup_of old
   pub grey : new.objects.grey ≡ old.objects.grey
   pub handles : new.handles ≡ old.handles
+  pub region : new.region ≡ old.region
   pub ordinal : new.cycle.rest.ordinal ≡ old.cycle.rest.ordinal

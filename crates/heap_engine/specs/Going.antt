@@ -1,29 +1,31 @@
--- What a heap's threads tell.
-use Rattle.std.specs.Prelude.{◌≡◌, ℕ, ◌≤◌, List, All, Contains, ⊤}
+-- What threads are told of a heap.
+use Rattle.std.specs.Prelude.{◌≡◌, ℕ, List, [], ◌∷◌, ◌++◌, Contains}
 use Rattle.gc_graph.specs.declared.command.Command.{Command}
 use Rattle.gc_graph.specs.declared.command.Command.TheVariants as C
 use Rattle.gc_graph.specs.declared.line.Line.{Line}
 use Rattle.gc_graph.specs.declared.line.Line.TheVariants as L
 use Rattle.gc_graph.specs.Lawful.{TellsTotals}
-use Rattle.gc_graph.specs.State.{State}
-use Rattle.heap_cycle.specs.declared.shared.Shared.{Shared}
+use Rattle.gc_graph.specs.State.{State, objects_of, used_of}
+use Rattle.thread_queues.specs.declared.totals.Totals.{Totals}
 
--- a reply of a thread
-abbrev pub IsReplyLine : Line → Type 0
-IsReplyLine (L.Reply j reply) = ⊤
-IsReplyLine (L.ReplyTotals j o n u f) = ⊤
-IsReplyLine _ = ⊥
+-- the states since threads went last, up to the one before this command: the first one is that just before they went
+abbrev pub since_after : Command → State → List State → List State
+since_after C.ThreadsGo before since = before ∷ []
+since_after _ before since = since ++ before ∷ []
 
--- the replies are lines of replies, and where the last command was a join the entries that it told were taken
-pub record HasTold (h : Shared) : Type 0 where
-  pub replies : All IsReplyLine h.threads.replies
-  pub shown : h.shown ≤ h.taken
+-- each line of totals tells those of one of these states
+abbrev pub TellOneOf : List State → List Line → Type 0
+TellOneOf states lines =
+    (j o n u f : ℕ) → Contains lines (L.ReplyTotals j o n u f)
+    → (s : State) × Contains states s × TellsTotals s j (L.ReplyTotals j o n u f)
 
--- totals that threads were told are those of this state
-abbrev pub AreTotalsOf : State → List Line → Type 0
-AreTotalsOf s lines = (j o n u f : ℕ) → Contains lines (L.ReplyTotals j o n u f) → TellsTotals s j (L.ReplyTotals j o n u f)
+-- the totals are those of the state
+pub record AreTotalsOf (s : State) (totals : Totals) : Type 0 where
+  pub ordinal : totals.ordinal ≡ s.ordinal
+  pub objects : totals.objects ≡ objects_of s.nodes
+  pub used : totals.used ≡ used_of s.nodes
+  pub finalised : totals.finalised ≡ s.finalised
 
--- the replies are what they were, but for those of threads that went, which tell the totals of the state before
-abbrev pub MayHaveGone : Command → State → Shared → Shared → Type 0
-MayHaveGone C.ThreadsGo s old new = AreTotalsOf s new.threads.replies
-MayHaveGone _ s old new = new.threads.replies ≡ old.threads.replies
+-- the totals are those of one of these states
+abbrev pub AreOfOneOf : List State → Totals → Type 0
+AreOfOneOf states totals = (s : State) × Contains states s × AreTotalsOf s totals

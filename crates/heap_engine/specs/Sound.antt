@@ -1,6 +1,5 @@
 -- How a heap's fields are seen, and what is true of them.
-use Rattle.std.specs.Prelude.{◌≡◌, ◌*◌, ◌≤◌, true, false, [], ◌++◌, length, Some}
-use Rattle.gc_graph.specs.declared.line.Line.{Line}
+use Rattle.std.specs.Prelude.{◌≡◌, ◌⊎◌, ◌*◌, ◌≤◌, true, false, [], ◌++◌, length, drop, All}
 use Rattle.gc_graph.specs.ThreadLaw.{IsCounted}
 use Rattle.marker_core.specs.Bodies.{holds}
 use Rattle.page_space.specs.Pages.{word_count}
@@ -13,11 +12,12 @@ use Rattle.heap_cycle.specs.Marking.{GreyView}
 use Rattle.heap_cycle.specs.Objects.{refusals_told_of}
 use Rattle.heap_engine.specs.declared.heap_core.Core.TheInside.{Inside}
 use Rattle.heap_engine.specs.View.{Items, View}
-use Rattle.heap_cycle.specs.Printed.{Printed, outcome_lines, IsOutcome}
+use Rattle.heap_cycle.specs.Printed.{outcome_lines, IsOutcome}
 use Rattle.heap_cycle.specs.Parts.{setup_of, state_of, IsManned, IsReady}
-use Rattle.heap_cycle.specs.Region.{made}
-use Rattle.heap_cycle.specs.Shared.{HasShared, ahead_of, taken_of, told_lines}
-use Rattle.heap_engine.specs.Going.{AreTotalsOf, HasTold}
+use Rattle.heap_cycle.specs.Region.{HasRegion}
+use Rattle.heap_cycle.specs.Owned.{IsToldLine}
+use Rattle.heap_engine.specs.CarriedOut.{IsOfJoin}
+use Rattle.heap_engine.specs.Going.{AreOfOneOf}
 
 -- what the owner did with the items of lists with shares
 abbrev pub items_of : SeatView → GreyView → Items
@@ -36,11 +36,11 @@ view_of h = record {
   state = state_of h.parts;
   marked = kept_of (holds h.parts.objects.seat.marked) h.parts.objects.nodes;
   traced = kept_of (holds h.parts.objects.seat.traced) h.parts.objects.nodes;
-  history = entries_of (taken_of h.shared);
-  ahead = entries_of (ahead_of h.shared);
-  going = h.going.value;
-  lines = told_lines h.shared ++ outcome_lines h.outcome h.parts.cycle.ran;
-  piece = made h.before.value (taken_of h.shared);
+  history = entries_of h.parts.region.taken;
+  out = h.parts.region.out;
+  since = h.since.value;
+  lines = h.parts.region.told ++ outcome_lines h.outcome h.parts.cycle.ran;
+  piece = entries_of (drop (length h.before.value) h.parts.region.taken);
   refusals = refusals_told_of h.parts.objects;
   lent = h.parts.objects.seat.lent;
   idle = h.parts.objects.grey.marking.list.idle;
@@ -48,25 +48,22 @@ view_of h = record {
   closed = h.closed;
 }
 
--- the outcome of a join: no node was finalised, and it has its last line
-pub record IsOfJoin (o : Printed) : Type 0 where
-  pub line : Line
-  pub last : o.last ≡ Some line
-  pub numbers : o.numbers ≡ []
-
--- while the heap isn't closed the parts are ready, with the markers that ought to run, and once it is closed none runs and no seat
--- is lent; the region is theirs, with its threads, whose replies tell the totals just before they went; the outcome is one of a
--- command, and has room for all nodes that a sweep can finalise; and what is counted stays within bounds
+-- while the heap isn't closed the parts are ready, with the markers that ought to run, and the region belongs to them; once it is closed
+-- no marker runs, no seat is lent and no pass is out; threads that run were handed totals of a state since they went; the lines that a
+-- join told are replies and entries, behind which the outcome has its last line alone; the outcome is one of a command, and has room for
+-- all nodes that a sweep can finalise; and what is counted stays within bounds
 pub record IsSound (h : Inside) : Type 0 where
   pub ready : h.closed ≡ false → IsReady h.parts
   pub manned : h.closed ≡ false → IsManned h.parts
-  pub joined_at_last : h.closed ≡ true → (h.parts.objects.grey.running ≡ []) × (h.parts.objects.seat.lent ≡ 0)
+  pub region : h.closed ≡ false → HasRegion h.parts
+  pub joined_at_last : h.closed ≡ true → (h.parts.objects.grey.running ≡ []) × (h.parts.objects.seat.lent ≡ 0) × (h.parts.region.out ≡ [])
   pub most : h.parts.cycle.rest.ordinal ≤ 1000000
   pub made : length h.parts.objects.nodes ≤ h.parts.cycle.rest.ordinal
-  pub shared : HasShared h.parts h.shared
-  pub replies : HasTold h.shared
-  pub totals : AreTotalsOf h.going.value h.shared.threads.replies
-  pub joined : h.shared.telling ≡ true → IsOfJoin h.outcome
+  pub few : h.parts.region.room ≤ 2 * h.parts.cycle.rest.ordinal
+  pub none_out : h.parts.region.awaiting ≡ false → h.parts.region.out ≡ []
+  pub totals : h.parts.region.awaiting ≡ true → AreOfOneOf h.since.value h.parts.region.totals
+  pub replies : All IsToldLine h.parts.region.told
+  pub joined : (h.parts.region.told ≡ []) ⊎ IsOfJoin h.outcome
   pub counted : IsCounted (state_of h.parts)
   pub told : IsOutcome h.outcome h.parts.cycle.ran
   pub room : word_count h.parts.objects.shape ≤ 2 * h.outcome.room

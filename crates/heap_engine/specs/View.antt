@@ -1,7 +1,5 @@
 -- A heap as its callers see it.
-use Rattle.std.specs.Prelude.{◌≡◌, ℕ, Bool, true, List}
-use Rattle.gc_graph.specs.declared.command.Command.{Command}
-use Rattle.gc_graph.specs.declared.command.Command.TheVariants as C
+use Rattle.std.specs.Prelude.{◌≡◌, ℕ, Bool, true, List, []}
 use Rattle.gc_graph.specs.declared.line.Line.{Line}
 use Rattle.gc_graph.specs.declared.region.Entry.{Entry}
 use Rattle.gc_graph.specs.State.{Setup, State}
@@ -18,8 +16,8 @@ pub record Items : Type 0 where
   pub missed : List ℕ
 
 -- what was set up, the state of the graph, whether each node is marked and whether it is traced, the region's history as far as
--- commands have taken it, the entries that threads made after that, the state just before threads went last, the lines of the last
--- outcome and the piece of the history that it took, how many pushes and notes were refused until now and until marking began, how
+-- commands have taken it, the numbers of the passes of threads that aren't joined, the states since threads went last, the lines of the
+-- last outcome and the piece of the history that it took, how many pushes and notes were refused until now and until marking began, how
 -- many seats are lent to markers, whether the owner's last pop and steal found nothing, what it did with items, and whether the heap
 -- was closed
 pub record View : Type 0 where
@@ -28,8 +26,8 @@ pub record View : Type 0 where
   pub marked : List Bool
   pub traced : List Bool
   pub history : List Entry
-  pub ahead : List Entry
-  pub going : State
+  pub out : List ℕ
+  pub since : List State
   pub lines : List Line
   pub piece : List Entry
   pub refusals : RefusalsTold
@@ -42,18 +40,14 @@ pub record View : Type 0 where
 abbrev pub no_refusals : RefusalsTold
 no_refusals = record { now = none_refused; since = none_refused }
 
--- the state just before threads went last, after a command
-abbrev pub going_after : Command → State → State → State
-going_after C.ThreadsGo before going = before
-going_after _ before going = going
-
--- the heap was closed: its markers are joined, so that no seat is lent, and nothing else has changed but what is known of marks,
--- items and refusals
+-- the heap was closed: its markers and threads are joined, so that no seat is lent and no pass is out, and nothing else has changed but
+-- what is known of marks, items and refusals
 abbrev pub IsClosed : View → View → Type 0
 IsClosed old new =
     new
     ≡ record old {
       closed = true;
+      out = [];
       marked = new.marked;
       traced = new.traced;
       refusals = new.refusals;

@@ -11,14 +11,14 @@ use crate::creating::new_object;
 use crate::cycles::{collect, finish, start, step, sweep_all, sweep_some};
 use crate::fields::{get, put, set, set_null, word};
 use crate::pairs::{key, pair, pair_null, value};
-use crate::shared::{export, import};
+use crate::region::{export, import};
 use crate::slots::{copy, drop_slot, read, weaken};
 use crate::stacking::{peek, pop, push, push_plain};
 use crate::threads::{at, go, join};
 use crate::totals::stat;
 use callback_table::CallbackTable;
 use gc_graph::Command;
-use heap_cycle::{Gate, Outcome, Parts, Shared};
+use heap_cycle::{Gate, Outcome, Parts};
 use std::sync::Arc;
 use std::thread::Threads;
 
@@ -26,18 +26,16 @@ use std::thread::Threads;
 pub(crate) fn run<R: Threads, G: Gate + Send + Sync + 'static>(
     rt: &R,
     parts: &mut Parts,
-    shared: &mut Shared,
     outcome: &mut Outcome,
     callbacks: &CallbackTable,
     gate: &Arc<G>,
     command: &Command,
 )
-    requires asked { IsAsked parts.old shared.old outcome.old }
+    requires asked { IsAsked parts.old outcome.old }
     requires kinds { callback_kinds callbacks.now ≡ parts.old.objects.callbacks }
     requires allowed { IsAllowed (length parts.old.objects.types) command.now }
-    requires section { IsInSection parts.old.cycle.rest.awaiting command.now }
-    ensures done { IsCommandDone command.now parts.old shared.old parts.new shared.new
-        outcome.old outcome.new }
+    requires section { IsInSection parts.old.region.awaiting command.now }
+    ensures done { IsCommandDone command.now parts.old parts.new outcome.old outcome.new }
 {
     match *command {
         Command::New { p, t, e } => new_object(parts, outcome, p, t, e),
@@ -58,17 +56,17 @@ pub(crate) fn run<R: Threads, G: Gate + Send + Sync + 'static>(
         Command::PushPlain { n } => push_plain(parts, outcome, n),
         Command::Pop => pop(parts, outcome),
         Command::Peek { i, q } => peek(parts, outcome, i, q),
-        Command::GcStart => start(rt, parts, shared, outcome, gate),
+        Command::GcStart => start(rt, parts, outcome, gate),
         Command::GcStep { n } => step(parts, outcome, n),
-        Command::GcFinish { want } => finish(rt, parts, shared, outcome, callbacks, want),
-        Command::GcNow { want } => collect(rt, parts, shared, outcome, callbacks, want),
+        Command::GcFinish { want } => finish(rt, parts, outcome, callbacks, want),
+        Command::GcNow { want } => collect(rt, parts, outcome, callbacks, want),
         Command::Sweep { n } => sweep_some(parts, outcome, n),
         Command::SweepAll => sweep_all(parts, outcome),
         Command::Stat => stat(parts, outcome),
-        Command::Export { p, x } => export(parts, shared, outcome, p, x),
-        Command::Import { x, p } => import(parts, shared, outcome, x, p),
-        Command::At { j, order } => at(parts, shared, outcome, j, order),
-        Command::ThreadsGo => go(parts, shared, outcome),
-        Command::ThreadsJoin => join(parts, shared, outcome),
+        Command::Export { p, x } => export(parts, outcome, p, x),
+        Command::Import { x, p } => import(parts, outcome, x, p),
+        Command::At { j, order } => at(parts, outcome, j, order),
+        Command::ThreadsGo => go(parts, outcome),
+        Command::ThreadsJoin => join(parts, outcome),
     }
 }

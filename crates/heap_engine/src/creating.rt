@@ -45,6 +45,7 @@ fn make(parts: &mut Parts, outcome: &mut Outcome, p: u32, t: u32, extra: u32) ->
     ensures step { StepNew (setup_of parts.old) (state_of parts.old) p t extra
         (lines_with outcome.new parts.new.cycle.ran result) (answered (state_of parts.new)) }
     ensures frame { IsFrame parts.old (counted parts.new) result }
+    ensures region { parts.new.region ≡ parts.old.region }
     ensures calm { outcome.new.prefinalises ≡ false }
     ensures room { outcome.new.room ≡ outcome.old.room }
 {

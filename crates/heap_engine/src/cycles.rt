@@ -9,7 +9,7 @@ ghost use Rattle.heap_engine.specs.CarriedOut.{IsAsked, IsCarriedOut, IsDoneAlon
 
 use callback_table::CallbackTable;
 use gc_graph::Want;
-use heap_cycle::{Gate, Outcome, Parts, Shared};
+use heap_cycle::{Gate, Outcome, Parts};
 use std::sync::Arc;
 use std::thread::Threads;
 
@@ -18,17 +18,14 @@ use std::thread::Threads;
 pub fn start<R: Threads, G: Gate + Send + Sync + 'static>(
     rt: &R,
     parts: &mut Parts,
-    shared: &mut Shared,
     outcome: &mut Outcome,
     gate: &Arc<G>,
 )
-    requires asked { IsAsked parts.old shared.old outcome.old }
-    ensures done { IsCarriedOut C.GcStart parts.old shared.old parts.new shared.new
+    requires asked { IsAsked parts.old outcome.old }
+    ensures done { IsCarriedOut C.GcStart parts.old parts.new
         outcome.old outcome.new }
 {
-    gc_graph::steps_follow_the_history();
-    gc_graph::steps_leave_threads();
-    let line = heap_cycle::start(rt, parts, shared, outcome, gate);
+    let line = heap_cycle::start(rt, parts, outcome, gate);
     outcome.end(line);
 }
 
@@ -47,19 +44,16 @@ pub fn step(parts: &mut Parts, outcome: &mut Outcome, n: u32)
 pub fn finish<R: Threads>(
     rt: &R,
     parts: &mut Parts,
-    shared: &mut Shared,
     outcome: &mut Outcome,
     callbacks: &CallbackTable,
     want: Want,
 )
-    requires asked { IsAsked parts.old shared.old outcome.old }
+    requires asked { IsAsked parts.old outcome.old }
     requires kinds { callback_kinds callbacks.now ≡ parts.old.objects.callbacks }
-    ensures done { IsCarriedOut (C.GcFinish want) parts.old shared.old parts.new shared.new
+    ensures done { IsCarriedOut (C.GcFinish want) parts.old parts.new
         outcome.old outcome.new }
 {
-    gc_graph::steps_follow_the_history();
-    gc_graph::steps_leave_threads();
-    let line = heap_cycle::finish(rt, parts, shared, outcome, callbacks, want);
+    let line = heap_cycle::finish(rt, parts, outcome, callbacks, want);
     outcome.end(line);
 }
 
@@ -68,19 +62,16 @@ pub fn finish<R: Threads>(
 pub fn collect<R: Threads>(
     rt: &R,
     parts: &mut Parts,
-    shared: &mut Shared,
     outcome: &mut Outcome,
     callbacks: &CallbackTable,
     want: Want,
 )
-    requires asked { IsAsked parts.old shared.old outcome.old }
+    requires asked { IsAsked parts.old outcome.old }
     requires kinds { callback_kinds callbacks.now ≡ parts.old.objects.callbacks }
-    ensures done { IsCarriedOut (C.GcNow want) parts.old shared.old parts.new shared.new
+    ensures done { IsCarriedOut (C.GcNow want) parts.old parts.new
         outcome.old outcome.new }
 {
-    gc_graph::steps_follow_the_history();
-    gc_graph::steps_leave_threads();
-    let line = heap_cycle::collect(rt, parts, shared, outcome, callbacks, want);
+    let line = heap_cycle::collect(rt, parts, outcome, callbacks, want);
     outcome.end(line);
 }
 

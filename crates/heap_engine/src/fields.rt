@@ -63,6 +63,7 @@ fn write(parts: &mut Parts, p: u32, f: u32, wanted: Wanted, content: &Content) -
     ensures step { StepWrite wanted (state_of parts.old) p f content.now.value.value (result ∷ [])
         (answered (state_of parts.new)) }
     ensures frame { IsFrame parts.old (counted parts.new) result }
+    ensures region { parts.new.region ≡ parts.old.region }
 {
     match field_of(parts, p, f, wanted) {
         Ok(field) => {
@@ -94,6 +95,7 @@ fn read_field(parts: &mut Parts, p: u32, f: u32, q: u32) -> Line
     ensures step { StepGet (state_of parts.old) p f q (result ∷ [])
         (answered (state_of parts.new)) }
     ensures frame { IsFrame parts.old (counted parts.new) result }
+    ensures region { parts.new.region ≡ parts.old.region }
 {
     match field_of(parts, p, f, Wanted::References) {
         Ok(field) => {
@@ -134,6 +136,7 @@ fn read_word(parts: &mut Parts, p: u32, f: u32) -> Line
     requires slot { p < 256 }
     ensures step { StepWord (state_of parts.old) p f (result ∷ []) (answered (state_of parts.new)) }
     ensures frame { IsFrame parts.old (counted parts.new) result }
+    ensures region { parts.new.region ≡ parts.old.region }
 {
     match field_of(parts, p, f, Wanted::Numbers) {
         Ok(field) => Line::Word {

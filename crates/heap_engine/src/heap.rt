@@ -1,9 +1,10 @@
 // A heap that does commands, as its callers have it.
 
-ghost use Rattle.std.specs.Prelude.{◌≡◌, ◌<◌, ◌≤◌};
+ghost use Rattle.std.specs.Prelude.{◌≡◌, ◌<◌, ◌≤◌, ℕ, Contains};
 ghost use Rattle.std.specs.Prelude.{false, true, [], ◌∷◌, length, take, Some};
 ghost use Rattle.std.specs.Prelude.{IfOk, IfSome, IfNone, slice_get};
 ghost use Rattle.gc_graph.specs.declared.line.Line.{Line};
+ghost use Rattle.gc_graph.specs.RegionSteps.{HasDoneFirst};
 ghost use Rattle.gc_graph.specs.State.{empty_state};
 ghost use Rattle.gc_graph.specs.Outcomes.{finalise_lines};
 ghost use Rattle.gc_graph.specs.Sections.{IsInSection};
@@ -74,7 +75,7 @@ impl<'a, G: Gate + Send + Sync + 'static> Heap<'a, G> {
         }) }
         ensures state { IfOk result (λ h. h.core.state ≡ empty_state) }
         ensures history { IfOk result (λ h. h.core.history ≡ []) }
-        ensures ahead { IfOk result (λ h. h.core.ahead ≡ []) }
+        ensures out { IfOk result (λ h. h.core.out ≡ []) }
         ensures lines { IfOk result (λ h. h.core.lines ≡ []) }
         ensures closed { IfOk result (λ h. h.core.closed ≡ false) }
         ensures marked { IfOk result (λ h. h.core.marked ≡ []) }
@@ -143,10 +144,12 @@ impl<'a, G: Gate + Send + Sync + 'static> Heap<'a, G> {
         self.core.summary()
     }
 
-    /// Ends the heap's run: markers that run are stopped and joined. Answers the line that counts what is
-    /// not finalised.
+    /// Ends the heap's run: markers that run are stopped and joined, and so are threads that run. Answers
+    /// the line that counts what is not finalised.
     pub fn close<R: Threads>(&mut self, rt: &R) -> Line
         ensures line { IsEndLine self.old.core.setup self.old.core.state result }
+        ensures begun { (j : ℕ) → Contains self.old.core.state.running j
+            → HasDoneFirst self.old.core.state self.old.core.state.unprinted j }
         ensures closed { IsClosed self.old.core self.new.core }
     {
         self.core.close(rt)

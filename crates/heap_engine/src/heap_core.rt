@@ -1,10 +1,11 @@
-// The parts of a heap, with the region and the script's threads beside them. Each command is one step of
-// the graph; `commands` says which function does it.
+// The parts of a heap, and the outcome of its last command. Each command is one step of the graph;
+// `commands` says which function does it.
 
-ghost use Rattle.std.specs.Prelude.{◌≡◌, ◌<◌};
+ghost use Rattle.std.specs.Prelude.{◌≡◌, ◌<◌, ℕ, Contains};
 ghost use Rattle.std.specs.Prelude.{true, false, [], ◌∷◌, length, take, Some};
 ghost use Rattle.std.specs.Prelude.{◌≤◌, IfOk, IfSome, IfNone, slice_get};
 ghost use Rattle.gc_graph.specs.declared.line.Line.{Line};
+ghost use Rattle.gc_graph.specs.RegionSteps.{HasDoneFirst};
 ghost use Rattle.gc_graph.specs.State.{empty_state};
 ghost use Rattle.gc_graph.specs.Sections.{IsInSection};
 ghost use Rattle.gc_graph.specs.Outcomes.{finalise_lines};
@@ -17,13 +18,13 @@ ghost use Rattle.heap_engine.specs.View.{no_refusals, IsClosed};
 ghost use Rattle.heap_cycle.specs.Printed.{finalised_in, TellsNode};
 
 use crate::commands::run;
-use crate::going::after;
 use crate::heap::Config;
+use crate::since::{StateLists, after, no_states};
 use callback_table::CallbackTable;
 use cross_thread_region::Histories;
 use gc_graph::{Command, Line, NoMemory};
 use ghost_values::GhostValue;
-use heap_cycle::{Cycle, Gate, Handles, Objects, Outcome, Parts, Shared, States};
+use heap_cycle::{Cycle, Gate, Handles, Objects, Outcome, OwnedRegion, Parts};
 use std::alloc::Global;
 use std::marker::Model;
 use std::sync::Arc;
@@ -34,11 +35,10 @@ use type_table::TypeTable;
 #[derive(Drop)]
 pub struct Core {
     parts: Parts,
-    shared: Shared,
     /// What commands had taken of the region's history just before the last one.
     before: GhostValue<Histories>,
-    /// The state just before threads went last.
-    going: GhostValue<States>,
+    /// The states since threads went last.
+    since: GhostValue<StateLists>,
     outcome: Outcome,
     closed: bool,
 }
@@ -74,7 +74,7 @@ impl Core {
         }) }
         ensures state { IfOk result (λ h. h.state ≡ empty_state) }
         ensures history { IfOk result (λ h. h.history ≡ []) }
-        ensures ahead { IfOk result (λ h. h.ahead ≡ []) }
+        ensures out { IfOk result (λ h. h.out ≡ []) }
         ensures lines { IfOk result (λ h. h.lines ≡ []) }
         ensures closed { IfOk result (λ h. h.closed ≡ false) }
         ensures marked { IfOk result (λ h. h.marked ≡ []) }
@@ -95,17 +95,17 @@ impl Core {
         )?;
         let outcome = Outcome::new(alloc, objects.word_count() as usize / 2 + 1)?;
         let handles = Handles::new(alloc)?;
-        let shared = Shared::new(alloc)?;
+        let region = OwnedRegion::new(alloc)?;
         let cycle = Cycle::new(alloc, config.pages);
         Ok(Core {
+            before: region.history(),
             parts: Parts {
                 objects,
                 handles,
                 cycle,
+                region,
             },
-            before: shared.history(),
-            shared,
-            going: heap_cycle::empty_state(),
+            since: no_states(),
             outcome,
             closed: false,
         })
@@ -129,25 +129,24 @@ impl Core {
         gc_graph::step_keeps_valid();
         gc_graph::steps_count();
         gc_graph::steps_follow_the_history();
-        gc_graph::steps_leave_threads();
         gc_graph::nodes_stay_put();
         gc_graph::commands_are_answered_in_kind();
-        self.before = self.shared.history();
-        self.going = after(&self.going, &self.parts, command);
+        self.before = self.parts.region.history();
+        self.since = after(&self.since, &self.parts, command);
         self.outcome.begin();
-        self.shared.begin();
+        self.parts.region.begin();
         run(
             rt,
             &mut self.parts,
-            &mut self.shared,
             &mut self.outcome,
             callbacks,
             gate,
             command,
         );
+        self.parts.region.orders_are_begun();
         self.parts.objects.seat_has_all_words();
         self.parts.cycle.count_command();
-        self.shared.told_count() + self.outcome.count(self.parts.cycle.ran())
+        self.parts.region.told_count() + self.outcome.count(self.parts.cycle.ran())
     }
 
     pub fn line(&mut self, index: u32) -> Line
@@ -155,9 +154,9 @@ impl Core {
         ensures line { slice_get self.old.lines index ≡ Some result }
         ensures same { self.new ≡ self.old }
     {
-        let told = self.shared.told_count();
+        let told = self.parts.region.told_count();
         if index < told {
-            return self.shared.told_line(index);
+            return self.parts.region.told_line(index);
         }
         self.outcome.line(index - told, self.parts.cycle.ran())
     }
@@ -166,7 +165,7 @@ impl Core {
         ensures line { IfSome result (λ line. self.now.lines ≡ line.now ∷ []) }
         ensures none { IfNone result ((line : Line) → self.now.lines ≡ line ∷ [] → TellsNode line) }
     {
-        if self.shared.told_count() > 0 {
+        if self.parts.region.told_count() > 0 {
             return None;
         }
         self.outcome.only_line()
@@ -197,14 +196,17 @@ impl Core {
 
     pub fn close<R: Threads>(&mut self, rt: &R) -> Line
         ensures line { IsEndLine self.old.setup self.old.state result }
+        ensures begun { (j : ℕ) → Contains self.old.state.running j
+            → HasDoneFirst self.old.state self.old.state.unprinted j }
         ensures closed { IsClosed self.old self.new }
     {
+        self.parts.region.orders_are_begun();
         let (n, u, g) = self.parts.objects.totals();
         self.stop(rt);
         Line::End { n, u, g }
     }
 
-    /// Joins the markers of an open cycle, which is left without a pause.
+    /// Joins the markers of an open cycle, which is left without a pause, and the threads that run.
     fn stop<R: Threads>(&mut self, rt: &R)
         ensures closed { IsClosed self.old self.new }
     {
@@ -212,6 +214,7 @@ impl Core {
             return;
         }
         heap_cycle::dismiss(rt, &mut self.parts);
+        self.parts.region.close();
         self.closed = true;
     }
 }

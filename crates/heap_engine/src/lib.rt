@@ -3,11 +3,11 @@
 //! What it is: a heap that does commands. It keeps its objects in the pages of `page_space`, and
 //! each command is one step of the graph that `gc_graph` defines.
 //!
-//! The parts: `Heap`, `Config`, and `Core`, which has the model: `Parts` (of `heap_cycle`), the
-//! region with the threads beside them, and an outcome. `commands` says which function does a command;
-//! these stand by their subjects in `creating`, `fields`, `pairs`, `slots`, `stacking`, `cycles`,
-//! `totals`, `shared` and `threads`, and end the outcome. `going` is for contracts alone. Next down are
-//! `heap_cycle`, `heap_roots` and `heap_objects`.
+//! The parts: `Heap`, `Config`, and `Core`, which has the model: `Parts` (of `heap_cycle`), among which
+//! is the region with the threads, and an outcome. `commands` says which function does a command; these
+//! stand by their subjects in `creating`, `fields`, `pairs`, `slots`, `stacking`, `cycles`, `totals`,
+//! `region` and `threads`, and end the outcome. `since` is for contracts alone. Next down are
+//! `heap_cycle`, `heap_roots`, `heap_region` and `heap_objects`.
 //!
 //! What is proved: `act` is a step from the heap's own state to its new state, for every command
 //! that is allowed and stands in its section, and its lines are those of the step; the pieces that
@@ -19,8 +19,8 @@
 //! until the pause. After a step that is done no node is marked and untraced, unless a push was refused
 //! in the cycle; beside markers the owner's last pop and steal found nothing, or it took 2^32 - 1
 //! items. Each item that it takes beside them it claims, finds traced or notes, unless a note was
-//! refused. A heap that is closed has no marker that runs. A thread that runs has done the first of its
-//! orders, and a join tells the totals of when the threads went.
+//! refused. A heap that is closed has no marker and no thread that runs. What was taken of a thread's
+//! entries are those of its first orders, and a join tells totals of states since the threads went.
 //!
 //! What is only tested or not said: that memory suffices, and how long a command takes.
 #![tactic(auto)]
@@ -29,11 +29,11 @@ mod commands;
 mod creating;
 mod cycles;
 mod fields;
-mod going;
 mod heap;
 mod heap_core;
 mod pairs;
-mod shared;
+mod region;
+mod since;
 mod slots;
 mod stacking;
 mod threads;

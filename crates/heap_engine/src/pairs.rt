@@ -83,6 +83,7 @@ fn write_pair(parts: &mut Parts, p: u32, f: u32, pair: &PairContent) -> Line
         pair.now.key.value.value pair.now.value.value.value (result ∷ [])
         (answered (state_of parts.new)) }
     ensures frame { IsFrame parts.old (counted parts.new) result }
+    ensures region { parts.new.region ≡ parts.old.region }
 {
     match field_of(parts, p, f, Wanted::Pairs) {
         Ok(field) => {
@@ -103,6 +104,7 @@ fn read_part(parts: &mut Parts, p: u32, f: u32, q: u32, part: Part) -> Line
     ensures step { StepPart part (state_of parts.old) p f q (result ∷ [])
         (answered (state_of parts.new)) }
     ensures frame { IsFrame parts.old (counted parts.new) result }
+    ensures region { parts.new.region ≡ parts.old.region }
 {
     match field_of(parts, p, f, Wanted::Pairs) {
         Ok(field) => {

@@ -39,6 +39,7 @@ fn push_pointer(parts: &mut Parts, p: u32, offset: u32) -> Line
     ensures step { StepPush (state_of parts.old) p offset (result ∷ [])
         (answered (state_of parts.new)) }
     ensures frame { IsFrame parts.old (counted parts.new) result }
+    ensures region { parts.new.region ≡ parts.old.region }
 {
     match parts.handles.place(p) {
         Some(place) => {
@@ -62,6 +63,7 @@ fn push_word(parts: &mut Parts, pushed: Pushed) -> Line
     ensures step { IsPushed (state_of parts.old) pushed.word.value
         (result ∷ []) (answered (state_of parts.new)) }
     ensures frame { IsFrame parts.old (counted parts.new) result }
+    ensures region { parts.new.region ≡ parts.old.region }
 {
     if parts.handles.stack().has_room() {
         parts.handles.push(pushed);
@@ -85,6 +87,7 @@ fn pop_word(parts: &mut Parts) -> Line
     requires ready { IsReady parts.old }
     ensures step { StepPop (state_of parts.old) (result ∷ []) (answered (state_of parts.new)) }
     ensures frame { IsFrame parts.old (counted parts.new) result }
+    ensures region { parts.new.region ≡ parts.old.region }
 {
     if parts.handles.stack().has_words() {
         parts.handles.pop();
@@ -110,6 +113,7 @@ fn peek_word(parts: &mut Parts, i: u32, q: u32) -> Line
     requires into { q < 256 }
     ensures step { StepPeek (state_of parts.old) i q (result ∷ []) (answered (state_of parts.new)) }
     ensures frame { IsFrame parts.old (counted parts.new) result }
+    ensures region { parts.new.region ≡ parts.old.region }
 {
     match parts.handles.stack().place(i) {
         Some(Some(place)) => {

@@ -1,96 +1,70 @@
 // The commands on the threads of a script (`include/cppgc/cross-thread-persistent.h`).
 
-ghost use Rattle.std.specs.Prelude.{◌≡◌, ◌≤◌, [], ◌∷◌, true, false};
+ghost use Rattle.std.specs.Prelude.{◌≡◌, ◌≤◌, true, false, length};
 ghost use Rattle.gc_graph.specs.declared.command.Command.TheVariants as C;
 ghost use Rattle.gc_graph.specs.Lawful.{IsAllowedOrder};
-ghost use Rattle.gc_graph.specs.Outcomes.{answered};
-ghost use Rattle.gc_graph.specs.RegionSteps.{StepAt, StepThreadsGo};
 ghost use Rattle.gc_graph.specs.ThreadLaw.{IsCounted};
-ghost use Rattle.heap_cycle.specs.Parts.{state_of, counted, IsReady, IsFrame};
-ghost use Rattle.heap_cycle.specs.Shared.{taken_of, HasShared};
-ghost use Rattle.heap_engine.specs.CarriedOut.{IsAsked, IsCarriedOut, IsJoinDone};
-ghost use Rattle.heap_engine.specs.Going.{HasTold, AreTotalsOf};
+ghost use Rattle.heap_cycle.specs.Parts.{state_of};
+ghost use Rattle.heap_engine.specs.CarriedOut.{IsAsked, IsCarriedOut};
+ghost use Rattle.heap_engine.specs.Going.{AreTotalsOf};
 
 use gc_graph::{Line, NoMemory, Order};
-use heap_cycle::{Outcome, Parts, Shared};
+use heap_cycle::{Outcome, Parts};
+use thread_queues::Totals;
 
 /// The order waits for its thread. Want of memory is free.
-pub fn at(parts: &mut Parts, shared: &mut Shared, outcome: &mut Outcome, j: u32, order: Order)
-    requires asked { IsAsked parts.old shared.old outcome.old }
-    requires joined { parts.old.cycle.rest.awaiting ≡ false }
+pub fn at(parts: &mut Parts, outcome: &mut Outcome, j: u32, order: Order)
+    requires asked { IsAsked parts.old outcome.old }
+    requires joined { parts.old.region.awaiting ≡ false }
     requires first { 1 ≤ j }
     requires last { j ≤ 8 }
     requires allowed { IsAllowedOrder order }
-    ensures done { IsCarriedOut (C.At j order) parts.old shared.old parts.new shared.new
-        outcome.old outcome.new }
+    ensures done { IsCarriedOut (C.At j order) parts.old parts.new outcome.old outcome.new }
 {
-    outcome.end(queue(parts, shared, j, order));
+    let line = match parts.region.queue(j, order) {
+        Ok(()) => Line::Queued,
+        Err(NoMemory) => Line::Memory,
+    };
+    outcome.end(line);
 }
 
-/// The threads that have orders do them.
-pub fn go(parts: &mut Parts, shared: &mut Shared, outcome: &mut Outcome)
-    requires asked { IsAsked parts.old shared.old outcome.old }
-    requires joined { parts.old.cycle.rest.awaiting ≡ false }
-    ensures done { IsCarriedOut C.ThreadsGo parts.old shared.old parts.new shared.new
-        outcome.old outcome.new }
+/// The threads that have orders go, and are handed the heap's totals.
+pub fn go(parts: &mut Parts, outcome: &mut Outcome)
+    requires asked { IsAsked parts.old outcome.old }
+    requires joined { parts.old.region.awaiting ≡ false }
+    ensures done { IsCarriedOut C.ThreadsGo parts.old parts.new outcome.old outcome.new }
 {
-    outcome.end(set_going(parts, shared));
+    let totals = totals_of(parts);
+    let m = parts.region.go(totals);
+    outcome.end(Line::Going { m });
 }
 
 /// The threads are joined, and what they did is told.
-pub fn join(parts: &mut Parts, shared: &mut Shared, outcome: &mut Outcome)
-    requires asked { IsAsked parts.old shared.old outcome.old }
-    requires awaited { parts.old.cycle.rest.awaiting ≡ true }
-    ensures done { IsJoinDone parts.old shared.old parts.new shared.new outcome.old outcome.new }
+pub fn join(parts: &mut Parts, outcome: &mut Outcome)
+    requires asked { IsAsked parts.old outcome.old }
+    requires awaited { parts.old.region.awaiting ≡ true }
+    ensures done { IsCarriedOut C.ThreadsJoin parts.old parts.new outcome.old outcome.new }
 {
-    outcome.end(Line::Joined {
-        m: heap_cycle::join(parts, shared),
-    });
+    gc_graph::orders_keep_valid();
+    let before = heap_cycle::moment(parts);
+    let m = parts.region.join(&mut parts.objects);
+    parts.take_since(&before);
+    outcome.end(Line::Joined { m });
 }
 
-/// The line that tells whether the order waits.
-fn queue(parts: &mut Parts, shared: &mut Shared, j: u32, order: Order) -> Line
-    requires ready { IsReady parts.old }
-    requires shared { HasShared parts.old shared.old }
-    requires told { HasTold shared.old }
-    requires quiet { shared.old.telling ≡ false }
-    requires joined { parts.old.cycle.rest.awaiting ≡ false }
-    requires first { 1 ≤ j }
-    requires last { j ≤ 8 }
-    requires allowed { IsAllowedOrder order }
-    ensures step { StepAt (state_of parts.old) j order (result ∷ [])
-        (answered (state_of parts.new)) }
-    ensures frame { IsFrame parts.old (counted parts.new) result }
-    ensures shared { HasShared (counted parts.new) shared.new }
-    ensures taken { taken_of shared.new ≡ taken_of shared.old }
-    ensures told { HasTold shared.new }
-    ensures quiet { shared.new.telling ≡ false }
-    ensures replies { shared.new.threads.replies ≡ shared.old.threads.replies }
+/// The heap's totals.
+fn totals_of(parts: &Parts) -> Totals
+    requires counted { IsCounted (state_of parts.now) }
+    requires few { parts.now.cycle.rest.ordinal ≤ 1000000 }
+    requires few_nodes { length parts.now.objects.nodes ≤ 1000000 }
+    ensures { AreTotalsOf (state_of parts.now) result }
 {
-    match heap_cycle::queue(parts, shared, j, order) {
-        Ok(()) => Line::Queued,
-        Err(NoMemory) => Line::Memory,
-    }
-}
-
-/// The line that tells how many threads have orders.
-fn set_going(parts: &mut Parts, shared: &mut Shared) -> Line
-    requires ready { IsReady parts.old }
-    requires shared { HasShared parts.old shared.old }
-    requires told { HasTold shared.old }
-    requires quiet { shared.old.telling ≡ false }
-    requires joined { parts.old.cycle.rest.awaiting ≡ false }
-    requires counted { IsCounted (state_of parts.old) }
-    ensures step { StepThreadsGo (state_of parts.old) (result ∷ [])
-        (answered (state_of parts.new)) }
-    ensures frame { IsFrame parts.old (counted parts.new) result }
-    ensures shared { HasShared (counted parts.new) shared.new }
-    ensures taken { taken_of shared.new ≡ taken_of shared.old }
-    ensures told { HasTold shared.new }
-    ensures quiet { shared.new.telling ≡ false }
-    ensures totals { AreTotalsOf (state_of parts.old) shared.new.threads.replies }
-{
-    Line::Going {
-        m: heap_cycle::go(parts, shared),
+    let (objects, used, _pages) = parts.objects.totals();
+    let counts = parts.cycle.counts();
+    Totals {
+        ordinal: counts.ordinal,
+        objects: u64::from(objects),
+        used: u64::from(used),
+        finalised: counts.finalised,
     }
 }

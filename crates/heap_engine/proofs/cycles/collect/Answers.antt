@@ -5,7 +5,7 @@ use Rattle.heap_engine.proofs.cycles.collect.Goals as goal
 
 pub returns : goal.returns
 returns d c = record {
-  done = taking_done (C.GcNow c.args.want) c.args.parts.now c.collect-line.new.parts c.args.shared.now c.collect-line.new.shared c.args.outcome.now c.collect-line.new.outcome c.end.new.self
-      c.collect-line.result _ c.end.ensures refl c.steps_follow_the_history.ensures c.steps_leave_threads.ensures refl (λ n is. cc) c.requires.asked
-      c.collect-line.ensures.shared c.collect-line.ensures.grown c.collect-line.ensures.step c.collect-line.ensures.frame c.collect-line.ensures.ran c.collect-line.ensures.room (λ is told. cc);
+  done = taking_done (C.GcNow c.args.want) c.args.parts.now c.collect-line.new.parts c.args.outcome.now c.collect-line.new.outcome c.end.new.self
+      c.collect-line.result _ c.end.ensures refl refl (λ n is. cc) c.requires.asked
+      c.collect-line.ensures.region c.collect-line.ensures.grown c.collect-line.ensures.step c.collect-line.ensures.frame c.collect-line.ensures.ran c.collect-line.ensures.room (λ is told. cc);
 }

@@ -5,7 +5,7 @@ use Rattle.heap_engine.proofs.cycles.finish.Goals as goal
 
 pub returns : goal.returns
 returns d c = record {
-  done = taking_done (C.GcFinish c.args.want) c.args.parts.now c.finish-line.new.parts c.args.shared.now c.finish-line.new.shared c.args.outcome.now c.finish-line.new.outcome c.end.new.self
-      c.finish-line.result _ c.end.ensures refl c.steps_follow_the_history.ensures c.steps_leave_threads.ensures refl (λ n is. cc) c.requires.asked
-      c.finish-line.ensures.shared c.finish-line.ensures.grown c.finish-line.ensures.step c.finish-line.ensures.frame c.finish-line.ensures.ran c.finish-line.ensures.room (λ is told. cc);
+  done = taking_done (C.GcFinish c.args.want) c.args.parts.now c.finish-line.new.parts c.args.outcome.now c.finish-line.new.outcome c.end.new.self
+      c.finish-line.result _ c.end.ensures refl refl (λ n is. cc) c.requires.asked
+      c.finish-line.ensures.region c.finish-line.ensures.grown c.finish-line.ensures.step c.finish-line.ensures.frame c.finish-line.ensures.ran c.finish-line.ensures.room (λ is told. cc);
 }

@@ -6,8 +6,8 @@ use Rattle.heap_engine.proofs.cycles.start.Goals as goal
 
 pub returns : goal.returns
 returns d c = record {
-  done = taking_done C.GcStart c.args.parts.now c.start-line.new.parts c.args.shared.now c.start-line.new.shared c.args.outcome.now c.start-line.new.outcome c.end.new.self
-      c.start-line.result _ c.end.ensures refl c.steps_follow_the_history.ensures c.steps_leave_threads.ensures refl (λ n is. cc) c.requires.asked
-      c.start-line.ensures.shared c.start-line.ensures.grown c.start-line.ensures.step c.start-line.ensures.frame
+  done = taking_done C.GcStart c.args.parts.now c.start-line.new.parts c.args.outcome.now c.start-line.new.outcome c.end.new.self
+      c.start-line.result _ c.end.ensures refl refl (λ n is. cc) c.requires.asked
+      c.start-line.ensures.region c.start-line.ensures.grown c.start-line.ensures.step c.start-line.ensures.frame
       (λ runs. absurd (true≢false (sym runs ∙ c.start-line.ensures.calm))) c.start-line.ensures.room (λ is told. c.start-line.ensures.marked told);
 }

@@ -12,6 +12,7 @@ returns c = record {
     alone = refl;
     ended = line_ends c.args.outcome.now c.end.new.self c.step.result c.end.ensures;
     step = rw (ended_alone c.args.outcome.now c.end.new.self c.step.new.parts.cycle.ran c.step.result c.end.ensures c.requires.nothing.numbers c.requires.nothing.calm) (refl, c.step.ensures.step);
+    region = c.step.ensures.region;
     frame = subst (IsFrame c.args.parts.now (counted c.step.new.parts)) (sym (last_is c.args.outcome.now c.end.new.self c.step.result c.end.ensures)) c.step.ensures.frame;
     ran = λ runs. absurd (true≢false (sym runs ∙ (ap (λ (p : Printed). p.prefinalises) c.end.ensures ∙ c.requires.nothing.calm)));
     done = λ n t is told. c.step.ensures.done t (sym (last_is c.args.outcome.now c.end.new.self c.step.result c.end.ensures) ∙ told);

@@ -58,3 +58,6 @@ returns-in-Ok-clause-frame c =
     (ap (λ (x : ObjectsView). record c.field_of.new.parts { objects = x }) c.target_at-target.ensures.same ∙ c.in-Ok.ensures.same) c.keep_read.ensures in
     read_frame (is_weak c.in-Ok.field.kind) s c.keep_read.new.parts c.put.new.self c.args.q c.target_at-target.result (target_of (value_in s.objects.nodes is.node c.args.f))
     c.line_of.result c.requires.ready.tied has read c.put.ensures c.line_of.ensures
+
+pub returns-in-Ok-clause-region : goal.returns-in-Ok-clause-region
+returns-in-Ok-clause-region c = c.keep_read.ensures.region ∙ ap (λ (x : Parts). x.region) c.in-Ok.ensures.same

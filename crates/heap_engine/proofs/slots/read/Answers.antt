@@ -1,4 +1,4 @@
-use Rattle.std.proofs.Common.{None, true, get_or, refl, subst}
+use Rattle.std.proofs.Common.{◌∙◌, None, true, ap, get_or, refl, subst}
 use Rattle.heap_cycle.specs.declared.parts.Parts.{Parts}
 use Rattle.heap_engine.specs.FieldSteps.{HasRead}
 use Rattle.gc_graph.specs.declared.command.Command.TheVariants as C
@@ -25,5 +25,6 @@ returns c =
                 c.line_of.ensures (has_read c) c.put.ensures,
           )
           (read_frame true s c.read_weakly.new.parts c.put.new.self c.args.p c.weak_target-target.result (get_or s.handles.weak c.args.w None) c.line_of.result
-          c.requires.ready.tied (has_read c) c.weak_target-target.ensures.target c.put.ensures c.line_of.ensures) refl (λ n is. cc);
+          c.requires.ready.tied (has_read c) c.weak_target-target.ensures.target c.put.ensures c.line_of.ensures)
+          (ap (λ (x : Parts). x.region) c.read_weakly.ensures.others ∙ ap (λ (x : Parts). x.region) c.weak_target-target.ensures.same) refl (λ n is. cc);
     }

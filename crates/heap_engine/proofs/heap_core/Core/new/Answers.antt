@@ -1,5 +1,6 @@
-use Rattle.std.proofs.Common.{◌≡◌, ◌≤◌, ◌++◌, length, sym, ap, ◌∙◌, subst, arith}
+use Rattle.std.proofs.Common.{◌≡◌, ◌*◌, ◌≤◌, ◌++◌, All, inl, length, sym, ap, ◌∙◌, subst, arith}
 use Rattle.std.proofs.lemmas.Bool.{true≢false}
+use Rattle.std.proofs.lemmas.List.Elements.{All-nil}
 use Rattle.gc_graph.specs.State.{Shape}
 use Rattle.callback_table.specs.Table.{callback_kinds}
 use Rattle.marker_core.specs.Bodies.{holds}
@@ -8,27 +9,26 @@ use Rattle.page_words.specs.Seat.{Heap}
 use Rattle.heap_cycle.specs.PlacesInWords.{kept_of}
 use Rattle.heap_cycle.specs.Objects.{refusals_told_of}
 use Rattle.heap_cycle.specs.declared.parts.Parts.{Parts}
-use Rattle.heap_cycle.specs.declared.shared.Shared.{Shared}
 use Rattle.heap_cycle.specs.Parts.{state_of}
 use Rattle.heap_cycle.specs.Printed.{Printed, IsOutcome, outcome_lines}
-use Rattle.heap_cycle.specs.Shared.{ahead_of, taken_of, told_lines}
-use Rattle.heap_engine.proofs.HeapEmpty.{counted_empty, empty_parts, manned_empty, no_totals, parts_empty, ready_empty, refusals_empty, shared_empty, told_empty}
+use Rattle.heap_cycle.specs.Owned.{IsToldLine}
+use Rattle.heap_engine.proofs.HeapEmpty.{counted_empty, empty_parts, manned_empty, parts_empty, ready_empty, refusals_empty, region_empty}
 use Rattle.heap_engine.proofs.heap_core.Core.new.Given as given
 use Rattle.heap_engine.proofs.heap_core.Core.new.Goals as goal
 
 -- the parts are those of an empty heap
-are_empty : (d : given.Over) (c : goal.After-empty d)
-    → (let parts : Parts = record { objects = c.in_ok-objects.objects; handles = c.in_ok-handles.handles; cycle = c.new-cycle.result } in
+are_empty : (d : given.Over) (c : goal.After-no_states d)
+    → (let parts : Parts = record { objects = c.in_ok-objects.objects; handles = c.in_ok-handles.handles; cycle = c.new-cycle.result; region = c.in_ok-region.region } in
     parts ≡ empty_parts c.in_ok-objects.objects.seat.heap (record { pages = c.args.config.pages; page_words = c.args.config.page_words }) c.args.config.markers c.args.types (callback_kinds c.args.callbacks.now))
 are_empty d c =
-    parts_empty (record { objects = c.in_ok-objects.objects; handles = c.in_ok-handles.handles; cycle = c.new-cycle.result }) c.in_ok-objects.objects.seat.heap
+    parts_empty (record { objects = c.in_ok-objects.objects; handles = c.in_ok-handles.handles; cycle = c.new-cycle.result; region = c.in_ok-region.region }) c.in_ok-objects.objects.seat.heap
     (record { pages = c.args.config.pages; page_words = c.args.config.page_words }) c.args.config.markers c.args.types (callback_kinds c.args.callbacks.now) c.in_ok-objects.ensures.view c.in_ok-handles.ensures
-    c.new-cycle.ensures
+    c.new-cycle.ensures c.in_ok-region.ensures
 
 pub invariant_of-result : goal.invariant_of-result
 invariant_of-result d c =
     let shape : Shape = record { pages = c.args.config.pages; page_words = c.args.config.page_words } in
-    let parts : Parts = record { objects = c.in_ok-objects.objects; handles = c.in_ok-handles.handles; cycle = c.new-cycle.result } in
+    let parts : Parts = record { objects = c.in_ok-objects.objects; handles = c.in_ok-handles.handles; cycle = c.new-cycle.result; region = c.in_ok-region.region } in
     let heap : Heap = c.in_ok-objects.objects.seat.heap in
     record {
       ready = λ opened. ready_empty parts heap shape c.args.config.markers c.args.types (callback_kinds c.args.callbacks.now) c.empty_is_valid.ensures c.requires.called (are_empty d c);
@@ -36,10 +36,12 @@ invariant_of-result d c =
       joined_at_last = λ closed. absurd (true≢false (sym closed));
       most = subst (λ (s : Parts). s.cycle.rest.ordinal ≤ 1000000) (sym (are_empty d c)) (omega arith);
       made = subst (λ (s : Parts). length s.objects.nodes ≤ s.cycle.rest.ordinal) (sym (are_empty d c)) (omega arith);
-      shared = shared_empty parts heap shape c.args.config.markers c.args.types (callback_kinds c.args.callbacks.now) c.in_ok-shared.shared (are_empty d c) c.in_ok-shared.ensures;
-      replies = told_empty c.in_ok-shared.shared c.in_ok-shared.ensures;
-      totals = no_totals c.empty.result.value c.in_ok-shared.shared c.in_ok-shared.ensures;
-      joined = λ telling. absurd (true≢false (sym telling ∙ ap (λ (h : Shared). h.telling) c.in_ok-shared.ensures));
+      region = λ opened. region_empty parts heap shape c.args.config.markers c.args.types (callback_kinds c.args.callbacks.now) (are_empty d c);
+      few = subst (λ (s : Parts). s.region.room ≤ 2 * s.cycle.rest.ordinal) (sym (are_empty d c)) (omega arith);
+      none_out = λ still. ap (λ (s : Parts). s.region.out) (are_empty d c);
+      totals = λ awaits. absurd (true≢false (sym awaits ∙ ap (λ (s : Parts). s.region.awaiting) (are_empty d c)));
+      replies = subst (λ (s : Parts). All IsToldLine s.region.told) (sym (are_empty d c)) (All-nil IsToldLine);
+      joined = inl (ap (λ (s : Parts). s.region.told) (are_empty d c));
       counted = counted_empty parts heap shape c.args.config.markers c.args.types (callback_kinds c.args.callbacks.now) (are_empty d c);
       told = subst (λ (o : Printed). IsOutcome o c.new-cycle.result.ran) (sym c.in_ok-outcome.ensures) (record { ran_some = λ runs. cc; last_plain = tt });
       room = omega (arith, ap (λ (o : Printed). o.room) c.in_ok-outcome.ensures, c.word_count.ensures);
@@ -59,14 +61,14 @@ pub returns-clause-refusals : goal.returns-clause-refusals
 returns-clause-refusals d c = ap (λ (s : Parts). refusals_told_of s.objects) (are_empty d c) ∙ refusals_empty c.args.config.markers
 
 pub returns-clause-history : goal.returns-clause-history
-returns-clause-history d c = ap (λ (h : Shared). entries_of (taken_of h)) c.in_ok-shared.ensures
+returns-clause-history d c = ap (λ (s : Parts). entries_of s.region.taken) (are_empty d c)
 
-pub returns-clause-ahead : goal.returns-clause-ahead
-returns-clause-ahead d c = ap (λ (h : Shared). entries_of (ahead_of h)) c.in_ok-shared.ensures
+pub returns-clause-out : goal.returns-clause-out
+returns-clause-out d c = ap (λ (s : Parts). s.region.out) (are_empty d c)
 
 pub returns-clause-lines : goal.returns-clause-lines
 returns-clause-lines d c =
-    ap (λ (h : Shared). told_lines h ++ outcome_lines c.in_ok-outcome.outcome c.new-cycle.result.ran) c.in_ok-shared.ensures
+    ap (λ (s : Parts). s.region.told ++ outcome_lines c.in_ok-outcome.outcome c.new-cycle.result.ran) (are_empty d c)
     ∙ ap (λ (o : Printed). outcome_lines o c.new-cycle.result.ran) c.in_ok-outcome.ensures
 
 pub returns-clause-lent : goal.returns-clause-lent

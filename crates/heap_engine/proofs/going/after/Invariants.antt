@@ -1,6 +1,0 @@
-use Rattle.heap_cycle.specs.Parts.{state_of}
-use Rattle.heap_engine.specs.View.{going_after}
-use Rattle.heap_engine.proofs.going.after.Given as goal
-
-abbrev pub ghost-chosen : goal.ghost-chosen
-ghost-chosen a = going_after a.about.now.command.now (state_of a.about.now.parts.now) a.about.now.going.now.value
