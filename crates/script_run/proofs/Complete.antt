@@ -1,10 +1,9 @@
 -- Words, an input and devices with which nothing is wrong: the run is done, or memory was wanting.
-use Rattle.std.proofs.Common.{◌≡◌, ◌⊎◌, ℕ, ◌≤◌, Bool, List, length, take, drop, Option, Some, None, refl, sym, ap, ◌∙◌, subst, inl, inr, arith}
+use Rattle.std.proofs.Common.{◌≡◌, ◌⊎◌, ℕ, Bool, List, length, Option, None, refl, sym, ap, ◌∙◌, subst, inl, inr}
 use Rattle.std.proofs.lemmas.Option.{none-some, same_Some}
 use Rattle.gc_graph.specs.declared.action.ActionKind.{ActionKind}
 use Rattle.gc_graph.specs.Script.{Script, IsScript}
 use Rattle.gc_graph.specs.ScriptLaw.{TextsAreJudged}
-use Rattle.text_devices.specs.Devices.{IsReadFrom}
 use Rattle.heap_engine.specs.View.{View}
 use Rattle.command_line.specs.declared.options.Options.{Options}
 use Rattle.command_line.specs.Options.{options_asked}

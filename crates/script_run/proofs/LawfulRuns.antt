@@ -1,9 +1,9 @@
--- Lawful runs: of no command, and of one command more.
-use Rattle.std.proofs.Common.{◌≡◌, ℕ, zero, suc, ◌+◌, ◌<◌, ◌≤◌, List, [], ◌∷◌, ◌++◌, length, take, get_or, Some, refl, sym, ap, ◌∙◌, subst, inl, inr, arith}
-use Rattle.std.specs.Prelude.{Contains, ◌⊎◌, slice_get}
-use Rattle.std.proofs.lemmas.List.{append-nil, take-append-le, take_all, take_more}
-use Rattle.std.proofs.lemmas.Option.{slice_get_within, get_or_from_slice_get}
-use Rattle.std.proofs.lemmas.Grind.{flat_map-append}
+-- Lawful runs: of no command, of one command more, and of a heap that is closed.
+use Rattle.std.proofs.Common.{◌≡◌, ℕ, ◌+◌, ◌<◌, ◌≤◌, List, [], ◌∷◌, ◌++◌, length, take, get_or, Some, refl, sym, ap, ◌∙◌, subst, inl, inr, arith, length-append}
+use Rattle.std.specs.Prelude.{Contains, slice_get}
+use Rattle.std.proofs.lemmas.List.{take_more}
+use Rattle.std.proofs.lemmas.List.Elements.{Contains-push_cases}
+use Rattle.std.proofs.lemmas.Option.{slice_get_within}
 use Rattle.gc_graph.specs.declared.command.Command.{Command}
 use Rattle.gc_graph.specs.declared.command.Command.TheVariants as C
 use Rattle.gc_graph.specs.declared.line.Line.{Line}
@@ -11,89 +11,24 @@ use Rattle.gc_graph.specs.declared.line.Line.TheVariants as L
 use Rattle.gc_graph.specs.declared.region.Entry.{Entry}
 use Rattle.gc_graph.specs.State.{Setup, State, empty_state}
 use Rattle.gc_graph.specs.RegionSteps.{HasDoneFirst}
-use Rattle.gc_graph.specs.Step.{Step}
 use Rattle.gc_graph.specs.HistoryLaw.{RunsAreReplayed}
 use Rattle.gc_graph.specs.History.{IsLegal}
-use Rattle.gc_graph.specs.Lawful.{Outcome, Run, AreJoined, TotalsWerePublished, TotalsNeverFall, TellsTotals, history_of, last_state, state_after}
+use Rattle.gc_graph.specs.Lawful.{Outcome, Run, IsLawful, AreJoined, TotalsWerePublished, TotalsNeverFall, TellsTotals, history_of, last_state}
 use Rattle.heap_engine.specs.Acted.{IsActed}
-use Rattle.heap_engine.specs.Going.{AreTotalsOf}
-use Rattle.heap_engine.specs.View.{View, going_after}
-use Rattle.script_run.specs.Printed.{IsLastGo, HasRun}
+use Rattle.heap_engine.specs.Going.{TellOneOf, since_after}
+use Rattle.heap_engine.specs.View.{View}
+use Rattle.script_run.specs.Printed.{IsBeforeOneSince, IsLastGo, HasRun}
+use Rattle.script_run.proofs.OneMore.{StepTo, get_front, get_last, get_more, found_in, run_more, run_length, last_more, history_more, state_stays, state_at_last}
 
 -- what came of the last command
 abbrev pub outcome_of : View → Outcome
 outcome_of heap = record { lines = heap.lines; piece = heap.piece; state = heap.state }
 
--- ---- one element more
+-- ---- the states since threads were last told to go
 
-module _ {X : Type 0} where
-  get_front : (xs : List X) (x : X) (i : ℕ) → i < length xs → slice_get (xs ++ x ∷ []) i ≡ slice_get xs i
-  get_front [] x i low = absurd (omega arith)
-  get_front (y ∷ xs) x zero low = refl
-  get_front (y ∷ xs) x (suc i) low = get_front xs x i (omega arith)
-
-  get_last : (xs : List X) (x : X) (i : ℕ) → i ≡ length xs → slice_get (xs ++ x ∷ []) i ≡ Some x
-  get_last [] x zero is = refl
-  get_last [] x (suc i) is = absurd (omega arith)
-  get_last (y ∷ xs) x zero is = absurd (omega arith)
-  get_last (y ∷ xs) x (suc i) is = get_last xs x i (omega arith)
-
-  get_more : (xs : List X) (x : X) (i : ℕ) (y : X) → slice_get xs i ≡ Some y → slice_get (xs ++ x ∷ []) i ≡ Some y
-  get_more xs x i y at = get_front xs x i (slice_get_within xs i y at) ∙ at
-
-  -- what is found stands among the first, or is the last
-  found_in : (xs : List X) (x : X) (i : ℕ) (y : X) → slice_get (xs ++ x ∷ []) i ≡ Some y
-      → (slice_get xs i ≡ Some y) ⊎ ((i ≡ length xs) × (x ≡ y))
-  found_in [] x zero y at = inr (refl, let same : x ≡ y = cc in same)
-  found_in [] x (suc i) y at = absurd (let never : ⊥ = cc in never)
-  found_in (z ∷ xs) x zero y at = inl at
-  found_in (z ∷ xs) x (suc i) y at = elim (found_in xs x i y at) [ inl front ↦ inl front | inr last ↦ inr (let next : suc i ≡ suc (length xs) = omega (arith, last.0) in next, last.1) ]
-
-  holds_found : (xs : List X) (i : ℕ) (x : X) → slice_get xs i ≡ Some x → Contains xs x
-  holds_found xs i x at = (i, slice_get_within xs i x at, get_or_from_slice_get xs i x x at)
-
--- ---- one outcome more
-
-abbrev pub StepTo : Setup → State → Command → Outcome → Type 0
-StepTo setup old command outcome = Step setup old command outcome.piece outcome.lines outcome.state
-
-run_more : (setup : Setup) (old : State) (commands : List Command) (outcomes : List Outcome) (command : Command) (outcome : Outcome)
-    → Run setup old commands outcomes → StepTo setup (last_state old outcomes) command outcome
-    → Run setup old (commands ++ command ∷ []) (outcomes ++ outcome ∷ [])
-run_more setup old [] [] command outcome r s = (s, tt)
-run_more setup old [] (o ∷ os) command outcome r s = absurd r
-run_more setup old (k ∷ ks) [] command outcome r s = absurd r
-run_more setup old (k ∷ ks) (o ∷ os) command outcome r s = (r.0, run_more setup o.state ks os command outcome r.1 s)
-
-run_length : (setup : Setup) (old : State) (commands : List Command) (outcomes : List Outcome) → Run setup old commands outcomes → length commands ≡ length outcomes
-run_length setup old [] [] r = refl
-run_length setup old [] (o ∷ os) r = absurd r
-run_length setup old (k ∷ ks) [] r = absurd r
-run_length setup old (k ∷ ks) (o ∷ os) r = omega (arith, run_length setup o.state ks os r.1)
-
-pub last_more : (old : State) (outcomes : List Outcome) (outcome : Outcome) → last_state old (outcomes ++ outcome ∷ []) ≡ outcome.state
-last_more old [] outcome = refl
-last_more old (o ∷ os) outcome = last_more o.state os outcome
-
-history_more : (outcomes : List Outcome) (outcome : Outcome) → history_of (outcomes ++ outcome ∷ []) ≡ history_of outcomes ++ outcome.piece
-history_more outcomes outcome =
-    flat_map-append (λ (o : Outcome). o.piece) outcomes (outcome ∷ [])
-    ∙ ap (λ (h : List Entry). history_of outcomes ++ h) (append-nil outcome.piece)
-
--- the states after the first commands stay
-state_stays : (outcomes : List Outcome) (outcome : Outcome) (k : ℕ) → k ≤ length outcomes → state_after outcomes k ≡ state_after (outcomes ++ outcome ∷ []) k
-state_stays outcomes outcome k low = ap (λ (os : List Outcome). last_state empty_state os) (sym (take-append-le k outcomes (outcome ∷ []) low))
-
-state_at_last : (outcomes : List Outcome) (outcome : Outcome) (k : ℕ) → k ≡ length outcomes → last_state empty_state outcomes ≡ state_after (outcomes ++ outcome ∷ []) k
-state_at_last outcomes outcome k is =
-    let low : k ≤ length outcomes = omega arith in
-    ap (λ (os : List Outcome). last_state empty_state os) (sym (take_all k outcomes (omega arith))) ∙ state_stays outcomes outcome k low
-
--- ---- the state just before threads were last told to go
-
-going_stays : (command : Command) (before going : State) → ¬ (command ≡ C.ThreadsGo) → going_after command before going ≡ going
-going_stays C.ThreadsGo before going other = absurd (other refl)
-going_stays _ before going other = refl
+since_stays : (command : Command) (before : State) (since : List State) → ¬ (command ≡ C.ThreadsGo) → since_after command before since ≡ since ++ before ∷ []
+since_stays C.ThreadsGo before since other = absurd (other refl)
+since_stays _ before since other = refl
 
 -- among the first commands the last start of threads was that of all, where the last command is no start
 go_before : (commands : List Command) (command : Command) (g : ℕ) → IsLastGo (commands ++ command ∷ []) g → g < length commands → IsLastGo commands g
@@ -102,30 +37,42 @@ go_before commands command g is low = record {
   last = λ k later at. is.last k later (get_more commands command k C.ThreadsGo at);
 }
 
+-- the states of the first commands stay among them
+since_more : (commands : List Command) (outcomes : List Outcome) (command : Command) (outcome : Outcome) (g : ℕ) (s : State) → length commands ≡ length outcomes
+    → IsBeforeOneSince commands outcomes g s → IsBeforeOneSince (commands ++ command ∷ []) (outcomes ++ outcome ∷ []) g s
+since_more commands outcomes command outcome g s many was =
+    (was.0, was.1, omega (arith, was.2, length-append commands (command ∷ [])), was.3 ∙ state_stays outcomes outcome was.0 (omega (arith, was.2)))
+
+-- the state before the last command is one of them
+since_last : (commands : List Command) (outcomes : List Outcome) (command : Command) (outcome : Outcome) (g : ℕ) (s : State) → length commands ≡ length outcomes
+    → g ≤ length commands → s ≡ last_state empty_state outcomes → IsBeforeOneSince (commands ++ command ∷ []) (outcomes ++ outcome ∷ []) g s
+since_last commands outcomes command outcome g s many low is =
+    (length commands, low, omega (arith, length-append commands (command ∷ [])), is ∙ state_at_last outcomes outcome (length commands) many)
+
+-- so the heap knows them after one command more
 knows_more : (setup : Setup) (commands : List Command) (outcomes : List Outcome) (command : Command) (mid heap : View) (lines : ℕ)
-    → HasRun setup commands outcomes mid → IsActed mid heap command lines
-    → (g : ℕ) → IsLastGo (commands ++ command ∷ []) g → heap.going ≡ state_after (outcomes ++ outcome_of heap ∷ []) g
-knows_more setup commands outcomes command mid heap lines ran acted g is =
-    let many : length commands ≡ length outcomes = run_length setup empty_state commands outcomes ran.lawful.run in
+    → HasRun setup commands outcomes mid → IsActed mid heap command lines → (g : ℕ) → IsLastGo (commands ++ command ∷ []) g
+    → (s : State) → Contains heap.since s → IsBeforeOneSince (commands ++ command ∷ []) (outcomes ++ outcome_of heap ∷ []) g s
+knows_more setup commands outcomes command mid heap lines ran acted g is s there =
+    let many : length commands ≡ length outcomes = run_length setup empty_state commands outcomes ran.unclosed.run in
     elim (found_in commands command g C.ThreadsGo is.go) [
       | inl front ↦
           let low : g < length commands = slice_get_within commands g C.ThreadsGo front in
           let other : ¬ (command ≡ C.ThreadsGo) = λ same. is.last (length commands) low (get_last commands command (length commands) refl ∙ ap Some same) in
-          acted.going ∙ going_stays command mid.state mid.going other ∙ ran.going g (go_before commands command g is low) ∙ state_stays outcomes (outcome_of heap) g (omega arith)
+          let all : heap.since ≡ mid.since ++ mid.state ∷ [] = acted.since ∙ since_stays command mid.state mid.since other in
+          elim (Contains-push_cases mid.since mid.state s (subst (λ (states : List State). Contains states s) all there)) [
+            | inl old ↦ since_more commands outcomes command (outcome_of heap) g s many (ran.since g (go_before commands command g is low) s old)
+            | inr now ↦ since_last commands outcomes command (outcome_of heap) g s many (omega arith) (sym now ∙ ran.last)
+          ]
       | inr at ↦
-          acted.going ∙ ap (λ (k : Command). going_after k mid.state mid.going) at.1 ∙ ran.last ∙ state_at_last outcomes (outcome_of heap) g (omega (arith, at.0))
+          let all : heap.since ≡ mid.state ∷ [] = acted.since ∙ ap (λ (k : Command). since_after k mid.state mid.since) at.1 in
+          elim (Contains-push_cases [] mid.state s (subst (λ (states : List State). Contains states s) all there)) [
+            | inl old ↦ absurd (omega (arith, old.1))
+            | inr now ↦ since_last commands outcomes command (outcome_of heap) g s many (omega (arith, at.0)) (sym now ∙ ran.last)
+          ]
     ]
 
 -- ---- totals
-
--- totals of one state don't fall
-totals_of_one : (s : State) (lines : List Line) → AreTotalsOf s lines → TotalsNeverFall lines
-totals_of_one s lines are a b j o n u f o2 n2 u2 f2 before at then =
-    let first = are j o n u f (holds_found lines a _ at) in
-    let second = are j o2 n2 u2 f2 (holds_found lines b _ then) in
-    let low : o ≡ s.ordinal = cc in
-    let high : o2 ≡ s.ordinal = cc in
-    omega arith
 
 published_stays : (outcomes : List Outcome) (outcome : Outcome) (g i : ℕ) (lines : List Line) → i ≤ length outcomes
     → TotalsWerePublished outcomes g i lines → TotalsWerePublished (outcomes ++ outcome ∷ []) g i lines
@@ -142,10 +89,14 @@ joined_before commands command g i low are = record {
 }
 
 -- threads that the last command joins went last by the command that told them to go
-joined_at_last : (commands : List Command) (command : Command) (g i : ℕ) → i ≡ length commands → AreJoined (commands ++ command ∷ []) g i → IsLastGo commands g
+joined_at_last : (commands : List Command) (command : Command) (g i : ℕ) → i ≡ length commands → AreJoined (commands ++ command ∷ []) g i
+    → IsLastGo (commands ++ command ∷ []) g
 joined_at_last commands command g i is are = record {
-  go = sym (get_front commands command g (omega (arith, are.before))) ∙ are.go;
-  last = λ k later at. are.last k later (omega (arith, slice_get_within commands k C.ThreadsGo at)) (get_more commands command k C.ThreadsGo at);
+  go = are.go;
+  last = λ k later at. elim (found_in commands command k C.ThreadsGo at) [
+    | inl front ↦ are.last k later (omega (arith, slice_get_within commands k C.ThreadsGo front)) at
+    | inr last ↦ let never : ⊥ = cc (are.join, get_last commands command i is, last.1) in never
+  ];
 }
 
 -- ---- what a command did
@@ -159,29 +110,33 @@ pub record DidNext (setup : Setup) (commands : List Command) (outcomes : List Ou
 
 module _ (setup : Setup) (commands : List Command) (outcomes : List Outcome) (command : Command) (mid heap : View) (did : DidNext setup commands outcomes command mid heap) where
   many : length commands ≡ length outcomes
-  many = run_length setup empty_state commands outcomes did.ran.lawful.run
+  many = run_length setup empty_state commands outcomes did.ran.unclosed.run
 
   runs : Run setup empty_state (commands ++ command ∷ []) (outcomes ++ outcome_of heap ∷ [])
   runs =
       let acted = subst (λ (s : Setup). StepTo s mid.state command (outcome_of heap)) did.same did.acted.step in
-      run_more setup empty_state commands outcomes command (outcome_of heap) did.ran.lawful.run
+      run_more setup empty_state commands outcomes command (outcome_of heap) did.ran.unclosed.run
       (subst (λ (s : State). StepTo setup s command (outcome_of heap)) did.ran.last acted)
 
   pieces : heap.history ≡ history_of (outcomes ++ outcome_of heap ∷ [])
-  pieces = did.acted.history ∙ ap (λ (h : List Entry). h ++ heap.piece) did.ran.lawful.pieces ∙ sym (history_more outcomes (outcome_of heap))
-
-  unjoined :
-      (j : ℕ) → Contains (last_state empty_state (outcomes ++ outcome_of heap ∷ [])).running j
-      → HasDoneFirst (last_state empty_state (outcomes ++ outcome_of heap ∷ [])) (last_state empty_state (outcomes ++ outcome_of heap ∷ [])).unprinted j
-  unjoined = subst (λ (s : State). (j : ℕ) → Contains s.running j → HasDoneFirst s s.unprinted j) (sym (last_more empty_state outcomes (outcome_of heap))) did.acted.unjoined
+  pieces = did.acted.history ∙ ap (λ (h : List Entry). h ++ heap.piece) did.ran.unclosed.pieces ∙ sym (history_more outcomes (outcome_of heap))
 
   -- what an earlier join told
   told_before : (g i : ℕ) (outcome : Outcome) → AreJoined (commands ++ command ∷ []) g i → slice_get outcomes i ≡ Some outcome
       → TotalsWerePublished (outcomes ++ outcome_of heap ∷ []) g i outcome.lines × TotalsNeverFall outcome.lines
   told_before g i outcome are at =
       let low : i < length outcomes = slice_get_within outcomes i outcome at in
-      let was = did.ran.lawful.published g i outcome (joined_before commands command g i (omega (arith, many)) are) at in
+      let was = did.ran.unclosed.published g i outcome (joined_before commands command g i (omega (arith, many)) are) at in
       (published_stays outcomes (outcome_of heap) g i outcome.lines (omega arith) was.0, was.1)
+
+  -- totals of these states had been published before the join
+  told_since : (g i : ℕ) → i ≡ length commands
+      → ((s : State) → Contains heap.since s → IsBeforeOneSince (commands ++ command ∷ []) (outcomes ++ outcome_of heap ∷ []) g s)
+      → TellOneOf heap.since heap.lines → TotalsWerePublished (outcomes ++ outcome_of heap ∷ []) g i heap.lines
+  told_since g i here knows tell j o n u f there =
+      let told = tell j o n u f there in
+      let was = knows told.0 told.1 in
+      (was.0, was.1, omega (arith, was.2, length-append commands (command ∷ [])), subst (λ (s : State). TellsTotals s j (L.ReplyTotals j o n u f)) was.3 told.2)
 
   -- what the last command told, where it is a join
   told_now : (g i : ℕ) → AreJoined (commands ++ command ∷ []) g i → i ≡ length outcomes
@@ -190,12 +145,8 @@ module _ (setup : Setup) (commands : List Command) (outcomes : List Outcome) (co
       let here : i ≡ length commands = omega (arith, many) in
       let found : Some command ≡ Some C.ThreadsJoin = sym (get_last commands command i here) ∙ are.join in
       let join : command ≡ C.ThreadsJoin = cc in
-      let went : mid.going ≡ state_after (outcomes ++ outcome_of heap ∷ []) g =
-      did.ran.going g (joined_at_last commands command g i here are) ∙ state_stays outcomes (outcome_of heap) g (omega (arith, are.before)) in
-      let told : AreTotalsOf mid.going heap.lines = did.acted.totals join in (
-        λ j o n u f there. (g, omega arith, omega (arith, are.before), subst (λ (s : State). TellsTotals s j (L.ReplyTotals j o n u f)) went (told j o n u f there)),
-        totals_of_one mid.going heap.lines told,
-      )
+      let knows = knows_more setup commands outcomes command mid heap (length heap.lines) did.ran did.acted g (joined_at_last commands command g i here are) in
+      (told_since g i here knows (did.acted.totals join), did.acted.fall join)
 
   published : (g i : ℕ) (outcome : Outcome) → AreJoined (commands ++ command ∷ []) g i → slice_get (outcomes ++ outcome_of heap ∷ []) i ≡ Some outcome
       → TotalsWerePublished (outcomes ++ outcome_of heap ∷ []) g i outcome.lines × TotalsNeverFall outcome.lines
@@ -207,15 +158,14 @@ module _ (setup : Setup) (commands : List Command) (outcomes : List Outcome) (co
 
   pub has_run_more : HasRun setup (commands ++ command ∷ []) (outcomes ++ outcome_of heap ∷ []) heap
   has_run_more = record {
-    lawful = record {
+    unclosed = record {
       run = runs;
       pieces = pieces;
       legal = subst IsLegal (sym pieces) (did.law setup (commands ++ command ∷ []) (outcomes ++ outcome_of heap ∷ []) runs).legal;
-      unjoined = unjoined;
       published = published;
     };
     last = sym (last_more empty_state outcomes (outcome_of heap));
-    going = knows_more setup commands outcomes command mid heap (length heap.lines) did.ran did.acted;
+    since = knows_more setup commands outcomes command mid heap (length heap.lines) did.ran did.acted;
   }
 
 -- the next of all commands; d stands for what a read past the end would give
@@ -233,15 +183,31 @@ take_none (x ∷ xs) = refl
 
 pub has_run_none : (setup : Setup) (commands : List Command) (heap : View) → heap.state ≡ empty_state → heap.history ≡ [] → HasRun setup (take 0 commands) [] heap
 has_run_none setup commands heap is fresh = subst (λ (ks : List Command). HasRun setup ks [] heap) (sym (take_none commands)) (record {
-  lawful = record {
+  unclosed = record {
     run = tt;
     pieces = fresh;
     legal = subst IsLegal (sym fresh) tt;
-    unjoined = λ j there. absurd (omega (arith, there.1));
     published = λ g i outcome are at. absurd (none i (slice_get_within {A = Outcome} [] i outcome at));
   };
   last = is;
-  going = λ g last. absurd (none g (slice_get_within {A = Command} [] g C.ThreadsGo last.go));
+  since = λ g last s there. absurd (none g (slice_get_within {A = Command} [] g C.ThreadsGo last.go));
 }) where
   none : (i : ℕ) → i < 0 → ⊥
   none i low = omega arith
+
+-- ---- a heap that is closed
+
+-- what was taken of a thread's entries are those of the first of its orders
+abbrev pub HaveBegun : State → Type 0
+HaveBegun s = (j : ℕ) → Contains s.running j → HasDoneFirst s s.unprinted j
+
+-- so closing shows that the run is lawful
+pub is_lawful : (setup : Setup) (commands : List Command) (outcomes : List Outcome) (heap : View) → HasRun setup commands outcomes heap → HaveBegun heap.state
+    → IsLawful setup commands outcomes heap.history
+is_lawful setup commands outcomes heap ran begun = record {
+  run = ran.unclosed.run;
+  pieces = ran.unclosed.pieces;
+  legal = ran.unclosed.legal;
+  unjoined = subst HaveBegun ran.last begun;
+  published = ran.unclosed.published;
+}

@@ -1,5 +1,6 @@
 pub mod Writing
 pub mod HeldBack
+pub mod OneMore
 pub mod LawfulRuns
 pub mod Printing
 pub mod Reports

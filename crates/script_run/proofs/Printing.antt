@@ -1,6 +1,6 @@
 -- Runs that are printed command by command.
 use Rattle.std.proofs.Common.{◌≡◌, ℕ, suc, ◌+◌, ◌<◌, List, [], ◌∷◌, ◌++◌, length, take, drop, get_or, Bool, false, Option, refl, sym, ap, ◌∙◌, subst, arith}
-use Rattle.std.proofs.lemmas.List.{append-nil, map-append, drop_all}
+use Rattle.std.proofs.lemmas.List.{append-nil, map-append}
 use Rattle.std.proofs.lemmas.Grind.{flat_map-append}
 use Rattle.std.proofs.Math.Seq.{drop-cons}
 use Rattle.gc_graph.specs.declared.command.Command.{Command}
@@ -39,13 +39,12 @@ printed_more setup commands i d x y z mid heap law low printed same acted more =
 -- the printing of its outcome failed
 pub printed_part : (setup : Setup) (commands : List Command) (i : ℕ) (d : Command) (x y z : Option (List ℕ)) (mid heap : View) → RunsAreReplayed → i < length commands
     → IsPrintedRun setup (take i commands) x y mid → mid.setup ≡ setup → IsActed mid heap (get_or commands i d) (length heap.lines)
-    → GrewByFront y z (lines_bytes heap.lines) → IsPartRun setup commands x z
+    → GrewByFront y z (lines_bytes heap.lines) → IsPartRun setup commands x z heap
 printed_part setup commands i d x y z mid heap law low printed same acted more = record {
   number = i + 1;
   within = omega arith;
   outcomes = printed.outcomes ++ outcome_of heap ∷ [];
-  history = heap.history;
-  lawful = (has_run_next setup commands i d printed.outcomes mid heap low (record { law = law; ran = printed.ran; same = same; acted = acted })).lawful;
+  ran = has_run_next setup commands i d printed.outcomes mid heap low (record { law = law; ran = printed.ran; same = same; acted = acted });
   written = subst (λ u. GrewByFront x z u) (sym (outcomes_more printed.outcomes (outcome_of heap))) (grew_front x y z _ _ printed.written more);
 }
 
@@ -77,10 +76,6 @@ sections_after commands i d mid heap lines law low are acted =
     subst (λ (awaiting : Bool). AreInSections awaiting (drop (i + 1) commands)) (sym left.awaiting)
     (subst (λ n. AreInSections (awaiting_after mid.state.awaiting (get_or commands i d)) (drop n commands)) next
     (subst (AreInSections mid.state.awaiting) (drop-cons commands i d low) are).1)
-
--- behind the last command no join is awaited
-pub none_awaited : (commands : List Command) (i : ℕ) (awaiting : Bool) → length commands ≡ i → AreInSections awaiting (drop i commands) → awaiting ≡ false
-none_awaited commands i awaiting end are = subst (AreInSections awaiting) (drop_all i commands (omega arith)) are
 
 -- so they are before the first
 pub sections_none : (commands : List Command) (heap : View) → heap.state ≡ empty_state → AreInSections false commands

@@ -1,5 +1,5 @@
 -- Reports that are written part by part: the type lines, the outcomes, and the end line.
-use Rattle.std.proofs.Common.{◌≡◌, ℕ, true, false, List, [], length, take, Option, refl, sym, ◌∙◌, subst, inl, inr, arith}
+use Rattle.std.proofs.Common.{◌≡◌, ℕ, false, List, [], length, take, Option, refl, sym, ◌∙◌, subst, inl, inr, arith}
 use Rattle.std.specs.Prelude.{Result, Ok, Err}
 use Rattle.std.proofs.lemmas.List.{take_all}
 use Rattle.gc_graph.specs.declared.command.Command.{Command}
@@ -15,6 +15,7 @@ use Rattle.script_run.specs.Setting.{Plan, setup_of_plan}
 use Rattle.script_run.specs.Printed.{IsPrintedRun, IsPartRun, printed_lines}
 use Rattle.script_run.specs.Headline.{IsWholeRun, IsReportCut, IsTold}
 use Rattle.script_run.proofs.Writing.{grew, grew_front, longer}
+use Rattle.script_run.proofs.LawfulRuns.{HaveBegun, is_lawful}
 use Rattle.script_run.proofs.Printing.{printed_none}
 
 -- the heap that did all the commands of the script
@@ -34,18 +35,18 @@ end_of kinds plan script x y old mid end has ended = subst (λ s. IsEndLine s mi
 
 whole_run : (kinds : List ActionKind) (plan : Plan) (script : Script) (w x y z : Option (List ℕ)) (old mid heap : View) (end : Line)
     → Grew w x (lines_bytes (type_lines 0 script.types)) → HasPrinted kinds plan script x y old mid → mid.state.ordinal ≡ length script.commands
-    → mid.ahead ≡ [] → IsEndLine mid.setup mid.state end → IsClosed mid heap → Grew y z (line_bytes end)
+    → HaveBegun mid.state → IsEndLine mid.setup mid.state end → IsClosed mid heap → Grew y z (line_bytes end)
     → IsWholeRun false kinds plan script w z heap
-whole_run kinds plan script w x y z old mid heap end types has count none ended is last =
+whole_run kinds plan script w x y z old mid heap end types has count begun ended is last =
     let run = run_of kinds plan script x y old mid has in
     subst (λ (h : View). IsWholeRun false kinds plan script w z h) (sym is) (record {
       outcomes = run.outcomes;
       history = mid.history;
       text = report_of script.types (printed_lines run.outcomes) end;
-      lawful = run.ran.lawful;
+      lawful = is_lawful (setup_of_plan kinds plan script.types) script.commands run.outcomes mid run.ran begun;
       state = run.ran.last;
       taken = refl;
-      ahead = none;
+      out = refl;
       printed = record {
         end = end;
         counted = subst (λ (s : State). IsEndLine (setup_of_plan kinds plan script.types) s end) run.ran.last (end_of kinds plan script x y old mid end has ended);
@@ -59,8 +60,8 @@ whole_run kinds plan script w x y z old mid heap end types has count none ended 
     })
 
 pub cut_in_types : (kinds : List ActionKind) (plan : Plan) (script : Script) (w x : Option (List ℕ)) (old : View) → old.state ≡ empty_state → old.history ≡ []
-    → GrewByFront w x (lines_bytes (type_lines 0 script.types)) → IsReportCut kinds plan script w x
-cut_in_types kinds plan script w x old start fresh front =
+    → HaveBegun old.state → GrewByFront w x (lines_bytes (type_lines 0 script.types)) → IsReportCut kinds plan script w x
+cut_in_types kinds plan script w x old start fresh begun front =
     let start_run : IsPrintedRun (setup_of_plan kinds plan script.types) (take 0 script.commands) x x old =
     printed_none (setup_of_plan kinds plan script.types) script.commands x old start fresh in
     record {
@@ -68,22 +69,22 @@ cut_in_types kinds plan script w x old start fresh front =
       within = omega arith;
       outcomes = start_run.outcomes;
       history = old.history;
-      lawful = start_run.ran.lawful;
+      lawful = is_lawful (setup_of_plan kinds plan script.types) (take 0 script.commands) start_run.outcomes old start_run.ran begun;
       ending = [];
       ends = inl refl;
       written = longer w x _ [] (longer w x _ (outcomes_bytes (printed_lines start_run.outcomes)) front);
     }
 
-pub cut_in_outcomes : (kinds : List ActionKind) (plan : Plan) (script : Script) (w x y : Option (List ℕ)) (old : View) → Grew w x (lines_bytes (type_lines 0 script.types))
-    → old.setup ≡ setup_of_plan kinds plan script.types → IsPartRun old.setup script.commands x y → IsReportCut kinds plan script w y
-cut_in_outcomes kinds plan script w x y old types setup part =
-    let run = subst (λ s. IsPartRun s script.commands x y) setup part in
+pub cut_in_outcomes : (kinds : List ActionKind) (plan : Plan) (script : Script) (w x y : Option (List ℕ)) (old mid : View) → Grew w x (lines_bytes (type_lines 0 script.types))
+    → old.setup ≡ setup_of_plan kinds plan script.types → IsPartRun old.setup script.commands x y mid → HaveBegun mid.state → IsReportCut kinds plan script w y
+cut_in_outcomes kinds plan script w x y old mid types setup part begun =
+    let run = subst (λ s. IsPartRun s script.commands x y mid) setup part in
     record {
       number = run.number;
       within = run.within;
       outcomes = run.outcomes;
-      history = run.history;
-      lawful = run.lawful;
+      history = mid.history;
+      lawful = is_lawful (setup_of_plan kinds plan script.types) (take run.number script.commands) run.outcomes mid run.ran begun;
       ending = [];
       ends = inl refl;
       written = longer w y _ [] (grew_front w x y _ _ types run.written);
@@ -91,8 +92,8 @@ cut_in_outcomes kinds plan script w x y old types setup part =
 
 cut_in_end : (kinds : List ActionKind) (plan : Plan) (script : Script) (w x y z : Option (List ℕ)) (old mid : View) (end : Line)
     → Grew w x (lines_bytes (type_lines 0 script.types)) → HasPrinted kinds plan script x y old mid
-    → IsEndLine mid.setup mid.state end → GrewByFront y z (line_bytes end) → IsReportCut kinds plan script w z
-cut_in_end kinds plan script w x y z old mid end types has ended last =
+    → HaveBegun mid.state → IsEndLine mid.setup mid.state end → GrewByFront y z (line_bytes end) → IsReportCut kinds plan script w z
+cut_in_end kinds plan script w x y z old mid end types has begun ended last =
     let run = run_of kinds plan script x y old mid has in
     record {
       number = length script.commands;
@@ -100,7 +101,8 @@ cut_in_end kinds plan script w x y z old mid end types has ended last =
       outcomes = run.outcomes;
       history = mid.history;
       lawful = subst (λ (ks : List Command). IsLawful (setup_of_plan kinds plan script.types) ks run.outcomes mid.history)
-          (sym (take_all (length script.commands) script.commands (omega arith))) run.ran.lawful;
+          (sym (take_all (length script.commands) script.commands (omega arith)))
+          (is_lawful (setup_of_plan kinds plan script.types) script.commands run.outcomes mid run.ran begun);
       ending = line_bytes end;
       ends = inr (
         refl,
@@ -113,9 +115,9 @@ cut_in_end kinds plan script w x y z old mid end types has ended last =
 
 pub told_at_end : {T E : Type 0} (kinds : List ActionKind) (plan : Plan) (script : Script) (w x y z : Option (List ℕ)) (old mid heap : View) (end : Line) (result : Result T E)
     → Grew w x (lines_bytes (type_lines 0 script.types)) → HasPrinted kinds plan script x y old mid → mid.state.ordinal ≡ length script.commands
-    → mid.ahead ≡ [] → IsEndLine mid.setup mid.state end → IsClosed mid heap → Writes y z (line_bytes end) result
+    → HaveBegun mid.state → IsEndLine mid.setup mid.state end → IsClosed mid heap → Writes y z (line_bytes end) result
     → IsTold false kinds plan script w z heap result
-told_at_end kinds plan script w x y z old mid heap end (Ok u) types has count none ended is last =
-    whole_run kinds plan script w x y z old mid heap end types has count none ended is last
-told_at_end kinds plan script w x y z old mid heap end (Err e) types has count none ended is last =
-    cut_in_end kinds plan script w x y z old mid end types has ended last
+told_at_end kinds plan script w x y z old mid heap end (Ok u) types has count begun ended is last =
+    whole_run kinds plan script w x y z old mid heap end types has count begun ended is last
+told_at_end kinds plan script w x y z old mid heap end (Err e) types has count begun ended is last =
+    cut_in_end kinds plan script w x y z old mid end types has begun ended last

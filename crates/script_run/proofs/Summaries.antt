@@ -15,7 +15,7 @@ use Rattle.heap_engine.specs.View.{IsClosed, View}
 use Rattle.script_run.specs.Setting.{Plan, setup_of_plan}
 use Rattle.script_run.specs.Printed.{HasRunAll}
 use Rattle.script_run.specs.Headline.{IsWholeRun, IsTold}
-use Rattle.script_run.proofs.LawfulRuns.{outcome_of, has_run_next, has_run_none}
+use Rattle.script_run.proofs.LawfulRuns.{HaveBegun, outcome_of, has_run_next, has_run_none, is_lawful}
 
 -- ---- the commands
 
@@ -41,13 +41,13 @@ ran_all setup commands i heap end ran = subst (λ (ks : List Command). HasRunAll
 
 -- ---- the line
 
--- the heap that did all the commands of the script, and of which a summary is printed
+-- the heap that did all the commands of the script, and of which a summary is printed; its closing told what threads had begun
 pub record HasSummed (kinds : List ActionKind) (plan : Plan) (script : Script) (old mid : View) : Type 0 where
   pub setup : old.setup ≡ setup_of_plan kinds plan script.types
   pub same : mid.setup ≡ old.setup
   pub ran : HasRunAll old.setup script.commands mid
   pub count : mid.state.ordinal ≡ length script.commands
-  pub ahead : mid.ahead ≡ []
+  pub begun : HaveBegun mid.state
 
 line_of : (mid : View) (outcomes : List Outcome) → mid.state ≡ last_state empty_state outcomes
     → line_bytes (summary_line mid.state) ≡ line_bytes (summary_line (last_state empty_state outcomes))
@@ -66,10 +66,10 @@ told_in_summary kinds plan script y z old mid heap (Ok u) has is written =
       outcomes = ran.0;
       history = mid.history;
       text = line_bytes (summary_line mid.state);
-      lawful = ran.1.lawful;
+      lawful = is_lawful (setup_of_plan kinds plan script.types) script.commands ran.0 mid ran.1 has.begun;
       state = ran.1.last;
       taken = refl;
-      ahead = has.ahead;
+      out = refl;
       printed = line_of mid ran.0 ran.1.last;
       written = written;
       setup = has.same ∙ has.setup;
@@ -82,6 +82,6 @@ told_in_summary kinds plan script y z old mid heap (Err e) has is written =
     record {
       outcomes = ran.0;
       history = mid.history;
-      lawful = ran.1.lawful;
+      lawful = is_lawful (setup_of_plan kinds plan script.types) script.commands ran.0 mid ran.1 has.begun;
       written = subst (λ (text : List ℕ). GrewByFront y z text) (line_of mid ran.0 ran.1.last) written;
     }

@@ -38,7 +38,7 @@ IsPrinted true setup script outcomes text = text ≡ line_bytes (summary_line (l
 -- ---- one script
 
 -- a lawful run of the whole script led to this heap, which is closed, with all markers joined, and has taken the history of that
--- run, behind which its region has no further entry, and what is printed of the run was written
+-- run; no pass of a thread is out, so that there is nothing that was not taken, and what is printed of the run was written
 pub record IsWholeRun (summary : Bool) (kinds : List ActionKind) (plan : Plan) (script : Script) (before after : Option (List ℕ)) (heap : View) : Type 0 where
   pub outcomes : List Outcome
   pub history : List Entry
@@ -46,7 +46,7 @@ pub record IsWholeRun (summary : Bool) (kinds : List ActionKind) (plan : Plan) (
   pub lawful : IsLawful (setup_of_plan kinds plan script.types) script.commands outcomes history
   pub state : heap.state ≡ last_state empty_state outcomes
   pub taken : heap.history ≡ history
-  pub ahead : heap.ahead ≡ []
+  pub out : heap.out ≡ []
   pub printed : IsPrinted summary (setup_of_plan kinds plan script.types) script outcomes text
   pub written : Grew before after text
   pub setup : heap.setup ≡ setup_of_plan kinds plan script.types

@@ -13,13 +13,14 @@
 //! What is proved, at `run`: after Done the script is the generated one, and the input was let alone,
 //! or the input was read to its end and is a script within the limits. What was written is what is
 //! printed of a lawful run of it, whose state and history the closed heap in `kept` has. The totals
-//! that threads were told are those just before they went, and a thread that was not joined has done
-//! the first of its orders. After a failed write a beginning of such a text was written, and after
-//! every other answer nothing. Too long and a faulty line are answered exactly where they are so. Usage
-//! is answered only where the words are refused, and such words give nothing but that or want of
-//! memory; a device's fault only where its count has risen, and with any other answer no call of that
-//! device has failed. All of it holds however many markers the words ask for, and whatever they and the
-//! gate do. What the heap is asked is in the ranges that it wants: laws say so of every script.
+//! that a thread was told are those of one state since the threads went, never older ones after newer
+//! ones. What was taken of a thread that was not joined are the entries of its first orders, which
+//! closing shows. After a failed write a beginning of such a text was written, and after every other
+//! answer nothing. Too long and a faulty line are answered exactly where they are so. Usage is answered
+//! only where the words are refused, and such words give nothing but that or want of memory; a device's
+//! fault only where its count has risen, and with any other answer no call of that device has failed.
+//! All of it holds however many markers the words ask for, and whatever they and the gate do. What the
+//! heap is asked is in the ranges that it wants: laws say so of every script.
 //! `run_with`, `run_commands` and `heap_engine`'s `Heap::act` are the way down.
 //!
 //! What is only tested or not said: that memory suffices, where a piece of the report ends, and what

@@ -28,7 +28,6 @@ pub(crate) fn print_all<R: Threads, K: Sink, G: Gate + Send + Sync + 'static>(
 ) -> Result<(), Failed>
     requires start { heap.old.core.state ≡ empty_state }
     requires fresh { heap.old.core.history ≡ [] }
-    requires calm { heap.old.core.ahead ≡ [] }
     requires opened { heap.old.core.closed ≡ false }
     requires allowed { All (IsAllowed (length heap.old.core.setup.types)) commands.now }
     requires few { length commands.now ≤ 1000000 }
@@ -38,11 +37,10 @@ pub(crate) fn print_all<R: Threads, K: Sink, G: Gate + Send + Sync + 'static>(
         (with_held_back (K.written sink.new) pieces.new) heap.new.core) }
     ensures part { OnErr result (IsPartRun heap.old.core.setup commands.now
         (with_held_back (K.written sink.old) pieces.old)
-        (with_held_back (K.written sink.new) pieces.new)) }
+        (with_held_back (K.written sink.new) pieces.new) heap.new.core) }
     ensures taken { TookMore (K.written sink.old) (K.written sink.new) }
     ensures setup { heap.new.core.setup ≡ heap.old.core.setup }
     ensures count { OnOk result (heap.new.core.state.ordinal ≡ length commands.now) }
-    ensures joined { OnOk result (heap.new.core.ahead ≡ []) }
     ensures cause { FailsByFault (K.faults sink.old) (K.faults sink.new) result }
 {
     gc_graph::runs_are_replayed();

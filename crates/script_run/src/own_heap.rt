@@ -78,7 +78,7 @@ pub(crate) fn run_script<'a, R: Threads, K: Sink, G: Gate + Send + Sync + 'stati
 }
 
 /// Runs commands on a new heap, which has so many types, and keeps it once all is printed. After a
-/// failed write it is let go: its markers were joined by then.
+/// failed write it is let go: its markers and threads were joined by then.
 fn run_commands<'a, R: Threads, K: Sink, G: Gate + Send + Sync + 'static>(
     rt: &R,
     mut heap: Heap<'a, G>,
@@ -95,7 +95,6 @@ fn run_commands<'a, R: Threads, K: Sink, G: Gate + Send + Sync + 'static>(
     requires types { types ≡ length heap.core.setup.types }
     requires start { heap.core.state ≡ empty_state }
     requires fresh { heap.core.history ≡ [] }
-    requires calm { heap.core.ahead ≡ [] }
     requires opened { heap.core.closed ≡ false }
     requires empty { pieces.old ≡ no_pieces }
     ensures answer { RunsScript heap.entry.core.setup.callbacks summary

@@ -20,7 +20,8 @@ use heap_script::{Failed, Pieces, Sink};
 use std::thread::Threads;
 
 /// Does the commands of a script on a new heap, which has so many types, and prints the report or the
-/// summary. The heap is closed then, also after a failed write, so that no marker goes on.
+/// summary. The heap is closed then, also after a failed write, so that no marker and no thread goes
+/// on.
 pub(crate) fn print_run<R: Threads, K: Sink, G: Gate + Send + Sync + 'static>(
     rt: &R,
     heap: &mut Heap<'_, G>,
@@ -35,7 +36,6 @@ pub(crate) fn print_run<R: Threads, K: Sink, G: Gate + Send + Sync + 'static>(
     requires types { types ≡ length heap.old.core.setup.types }
     requires start { heap.old.core.state ≡ empty_state }
     requires fresh { heap.old.core.history ≡ [] }
-    requires calm { heap.old.core.ahead ≡ [] }
     requires opened { heap.old.core.closed ≡ false }
     requires empty { pieces.old ≡ no_pieces }
     ensures told { IsTold summary heap.old.core.setup.callbacks (plan_of heap.old.core.setup)
@@ -45,45 +45,14 @@ pub(crate) fn print_run<R: Threads, K: Sink, G: Gate + Send + Sync + 'static>(
     ensures joined { heap.new.core.lent ≡ 0 }
     ensures cause { FailsByFault (K.faults sink.old) (K.faults sink.new) result }
 {
-    match print_wanted(rt, heap, summary, types, commands, pieces, sink) {
-        Ok(()) => Ok(()),
-        Err(failed) => {
-            let _end = heap.close(rt);
-            Err(failed)
-        }
-    }
-}
-
-/// Does the commands and prints what is wanted. Unless a write fails, the heap is closed then.
-fn print_wanted<R: Threads, K: Sink, G: Gate + Send + Sync + 'static>(
-    rt: &R,
-    heap: &mut Heap<'_, G>,
-    summary: bool,
-    types: u32,
-    commands: &[Command],
-    pieces: &mut Pieces,
-    sink: &mut K,
-) -> Result<(), Failed>
-    requires runnable { IsRunnable (length heap.old.core.setup.callbacks)
-        (script_on heap.old.core.setup commands.now) }
-    requires types { types ≡ length heap.old.core.setup.types }
-    requires start { heap.old.core.state ≡ empty_state }
-    requires fresh { heap.old.core.history ≡ [] }
-    requires calm { heap.old.core.ahead ≡ [] }
-    requires opened { heap.old.core.closed ≡ false }
-    requires empty { pieces.old ≡ no_pieces }
-    ensures told { IsTold summary heap.old.core.setup.callbacks (plan_of heap.old.core.setup)
-        (script_on heap.old.core.setup commands.now)
-        (K.written sink.old) (K.written sink.new) heap.new.core result }
-    ensures cause { FailsByFault (K.faults sink.old) (K.faults sink.new) result }
-{
     if summary {
         return print_summary(rt, heap, commands, pieces, sink);
     }
     print_report(rt, heap, types, commands, pieces, sink)
 }
 
-/// Does the commands and prints the report: the types, each outcome as it comes, and the end line.
+/// Does the commands and prints the report: the types, each outcome as it comes, and the end line. The
+/// heap is closed before the end line, and where a write fails before it.
 fn print_report<R: Threads, K: Sink, G: Gate + Send + Sync + 'static>(
     rt: &R,
     heap: &mut Heap<'_, G>,
@@ -97,21 +66,28 @@ fn print_report<R: Threads, K: Sink, G: Gate + Send + Sync + 'static>(
     requires types { types ≡ length heap.old.core.setup.types }
     requires start { heap.old.core.state ≡ empty_state }
     requires fresh { heap.old.core.history ≡ [] }
-    requires calm { heap.old.core.ahead ≡ [] }
     requires opened { heap.old.core.closed ≡ false }
     requires empty { pieces.old ≡ no_pieces }
     ensures told { IsTold false heap.old.core.setup.callbacks (plan_of heap.old.core.setup)
         (script_on heap.old.core.setup commands.now)
         (K.written sink.old) (K.written sink.new) heap.new.core result }
+    ensures closed { heap.new.core.closed ≡ true }
+    ensures joined { heap.new.core.lent ≡ 0 }
     ensures cause { FailsByFault (K.faults sink.old) (K.faults sink.new) result }
 {
     match print_types(types, pieces, sink) {
         Ok(()) => {}
-        Err(failed) => return Err(failed),
+        Err(failed) => {
+            let _end = heap.close(rt);
+            return Err(failed);
+        }
     }
     match print_all(rt, heap, commands, pieces, sink) {
         Ok(()) => {}
-        Err(failed) => return Err(failed),
+        Err(failed) => {
+            let _end = heap.close(rt);
+            return Err(failed);
+        }
     }
     let end = heap.close(rt);
     print_end(&end, pieces, sink)
@@ -129,12 +105,13 @@ fn print_summary<R: Threads, K: Sink, G: Gate + Send + Sync + 'static>(
         (script_on heap.old.core.setup commands.now) }
     requires start { heap.old.core.state ≡ empty_state }
     requires fresh { heap.old.core.history ≡ [] }
-    requires calm { heap.old.core.ahead ≡ [] }
     requires opened { heap.old.core.closed ≡ false }
     requires empty { pieces.old ≡ no_pieces }
     ensures told { IsTold true heap.old.core.setup.callbacks (plan_of heap.old.core.setup)
         (script_on heap.old.core.setup commands.now)
         (K.written sink.old) (K.written sink.new) heap.new.core result }
+    ensures closed { heap.new.core.closed ≡ true }
+    ensures joined { heap.new.core.lent ≡ 0 }
     ensures cause { FailsByFault (K.faults sink.old) (K.faults sink.new) result }
 {
     do_all(rt, heap, commands);
@@ -151,7 +128,6 @@ fn do_all<R: Threads, G: Gate + Send + Sync + 'static>(
 )
     requires start { heap.old.core.state ≡ empty_state }
     requires fresh { heap.old.core.history ≡ [] }
-    requires calm { heap.old.core.ahead ≡ [] }
     requires opened { heap.old.core.closed ≡ false }
     requires allowed { All (IsAllowed (length heap.old.core.setup.types)) commands.now }
     requires few { length commands.now ≤ 1000000 }
@@ -159,7 +135,6 @@ fn do_all<R: Threads, G: Gate + Send + Sync + 'static>(
     ensures done { HasRunAll heap.old.core.setup commands.now heap.new.core }
     ensures setup { heap.new.core.setup ≡ heap.old.core.setup }
     ensures count { heap.new.core.state.ordinal ≡ length commands.now }
-    ensures joined { heap.new.core.ahead ≡ [] }
 {
     gc_graph::runs_are_replayed();
     gc_graph::steps_leave_threads();

@@ -1,4 +1,4 @@
-use Rattle.std.proofs.Common.{◌≡◌, ◌⊎◌, true, false, true≢false, map, string_bytes, option_map, ap, sym, ◌∙◌, refl, inl, inr, rules}
+use Rattle.std.proofs.Common.{◌≡◌, ◌⊎◌, true, true≢false, map, string_bytes, option_map, ap, sym, refl, inl, inr, rules}
 use Rattle.script_run.specs.declared.status.Status.TheVariants as S
 use Rattle.script_run.specs.Headline.{tells_of_input}
 use Rattle.script_run.proofs.Outcomes.{asks_input, answers_done, answers_stopped, answers_script, made_done, made_stopped, script_tells_no_input, none_of, of_kept}

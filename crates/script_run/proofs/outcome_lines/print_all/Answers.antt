@@ -1,5 +1,5 @@
 use Rattle.std.proofs.Common.{refl, rules}
-use Rattle.script_run.proofs.Printing.{printed_more, printed_part, printed_none, section_at, sections_none, sections_after, none_awaited}
+use Rattle.script_run.proofs.Printing.{printed_more, printed_part, printed_none, section_at, sections_none, sections_after}
 use Rattle.script_run.proofs.HeldBack.{taken_none, taken_on}
 use Rattle.script_run.proofs.outcome_lines.print_all.Goals as goal
 
@@ -18,7 +18,6 @@ loop-command-init g c = record {
   sections = sections_none c.args.commands.now c.args.heap.now.core c.requires.start c.requires.sections;
   ordinal = search rules;
   opened = c.requires.opened;
-  ahead = λ joined. c.requires.calm;
   steady = refl;
   taken = taken_none (g.K.Sink.written c.args.sink.now);
   printed = printed_none c.args.heap.now.core.setup c.args.commands.now _ c.args.heap.now.core c.requires.start c.requires.fresh;
@@ -31,7 +30,6 @@ loop-command-preserved g c = record {
       c.steps_leave_threads.ensures c.loop-command-test.true c.loop-command.invariant.sections c.print_outcome.ensures.acted;
   ordinal = search rules;
   opened = search rules;
-  ahead = c.print_outcome.ensures.acted.ahead;
   steady = search rules;
   taken = taken_on _ _ _ c.loop-command.invariant.taken c.print_outcome.ensures.taken;
   printed =
@@ -41,6 +39,3 @@ loop-command-preserved g c = record {
 
 pub returns-in-Err-clause-taken : goal.returns-in-Err-clause-taken
 returns-in-Err-clause-taken g c = taken_on _ _ _ c.loop-command.invariant.taken c.print_outcome.ensures.taken
-
-pub returns-clause-joined : goal.returns-clause-joined
-returns-clause-joined g c = c.loop-command.invariant.ahead (none_awaited c.args.commands.now c.loop-command.command-index _ (search rules) c.loop-command.invariant.sections)

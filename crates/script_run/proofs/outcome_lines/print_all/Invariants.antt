@@ -1,4 +1,4 @@
-use Rattle.std.proofs.Common.{◌≡◌, false, [], take, drop}
+use Rattle.std.proofs.Common.{◌≡◌, false, take, drop}
 use Rattle.gc_graph.specs.Sections.{AreInSections}
 use Rattle.report_text.specs.Pieces.{with_held_back, TookMore}
 use Rattle.script_run.specs.Printed.{IsPrintedRun}
@@ -10,7 +10,6 @@ invariant-loop-command g l = record {
   sections : AreInSections l.heap.core.state.awaiting (drop l.command-index l.commands);
   ordinal : l.heap.core.state.ordinal ≡ l.command-index;
   opened : l.heap.core.closed ≡ false;
-  ahead : l.heap.core.state.awaiting ≡ false → l.heap.core.ahead ≡ [];
   steady : g.K.Sink.faults l.sink ≡ g.K.Sink.faults l.initial.sink;
   taken : TookMore (g.K.Sink.written l.initial.sink) (g.K.Sink.written l.sink);
   printed : IsPrintedRun l.initial.heap.core.setup (take l.command-index l.commands)

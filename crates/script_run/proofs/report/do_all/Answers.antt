@@ -1,5 +1,5 @@
 use Rattle.std.proofs.Common.{refl, rules}
-use Rattle.script_run.proofs.Printing.{section_at, sections_none, sections_after, none_awaited}
+use Rattle.script_run.proofs.Printing.{section_at, sections_none, sections_after}
 use Rattle.script_run.proofs.Summaries.{ran_none, ran_more, ran_all}
 use Rattle.script_run.proofs.report.do_all.Goals as goal
 
@@ -9,7 +9,6 @@ loop-command-init g c = record {
   sections = sections_none c.args.commands.now c.args.heap.now.core c.requires.start c.requires.sections;
   ordinal = search rules;
   opened = c.requires.opened;
-  ahead = λ joined. c.requires.calm;
   ran = ran_none c.args.heap.now.core.setup c.args.commands.now c.args.heap.now.core c.requires.start c.requires.fresh;
 }
 
@@ -24,7 +23,6 @@ loop-command-preserved g c = record {
       c.steps_leave_threads.ensures c.loop-command-test.true c.loop-command.invariant.sections c.act-lines.ensures.acted;
   ordinal = search rules;
   opened = search rules;
-  ahead = c.act-lines.ensures.acted.ahead;
   ran = ran_more c.args.heap.now.core.setup c.args.commands.now c.loop-command.command-index _ c.loop-command.heap.core c.act-lines.new.self.core
       c.runs_are_replayed.ensures c.loop-command-test.true c.loop-command.invariant.ran c.loop-command.invariant.setup _ c.act-lines.ensures.acted;
 }
@@ -32,6 +30,3 @@ loop-command-preserved g c = record {
 pub returns-clause-done : goal.returns-clause-done
 returns-clause-done g c =
     ran_all c.args.heap.now.core.setup c.args.commands.now c.loop-command.command-index c.loop-command.heap.core (search rules) c.loop-command.invariant.ran
-
-pub returns-clause-joined : goal.returns-clause-joined
-returns-clause-joined g c = c.loop-command.invariant.ahead (none_awaited c.args.commands.now c.loop-command.command-index _ (search rules) c.loop-command.invariant.sections)

@@ -1,4 +1,4 @@
-use Rattle.std.proofs.Common.{◌≡◌, false, [], take, drop}
+use Rattle.std.proofs.Common.{◌≡◌, false, take, drop}
 use Rattle.gc_graph.specs.Sections.{AreInSections}
 use Rattle.script_run.specs.Printed.{HasRunAll}
 use Rattle.script_run.proofs.report.do_all.Given as goal
@@ -9,6 +9,5 @@ invariant-loop-command g l = record {
   sections : AreInSections l.heap.core.state.awaiting (drop l.command-index l.commands);
   ordinal : l.heap.core.state.ordinal ≡ l.command-index;
   opened : l.heap.core.closed ≡ false;
-  ahead : l.heap.core.state.awaiting ≡ false → l.heap.core.ahead ≡ [];
   ran : HasRunAll l.initial.heap.core.setup (take l.command-index l.commands) l.heap.core;
 }
