@@ -1,9 +1,11 @@
 // The lines that a join tells before its last one.
 
-ghost use Rattle.std.specs.Prelude.{◌≡◌, ◌<◌, ◌≤◌, ◌^◌, Some, length, slice_get};
+ghost use Rattle.std.specs.Prelude.{◌≡◌, ◌+◌, ◌-◌, ◌<◌, ◌≤◌, ◌^◌, Some, length, slice_get};
 
+use crate::mirror::Mirror;
 use crate::owned::OwnedRegion;
 use gc_graph::Line;
+use thread_queues::ThreadQueues;
 
 impl OwnedRegion {
     /// How many lines the last command tells before its last one, where it was a join.
@@ -13,7 +15,7 @@ impl OwnedRegion {
         ensures small { length self.now.told ≤ 2 ^ 31 }
     {
         if self.telling {
-            (self.threads.reply_count() + (self.mirror.len() - self.shown)) as u32
+            lines_behind(&self.threads, &self.mirror, self.shown)
         } else {
             0
         }
@@ -34,4 +36,14 @@ impl OwnedRegion {
             Line::Entry(self.mirror.entry(self.mirror.len() - left))
         }
     }
+}
+
+/// How many replies there are, and entries behind the first ones.
+#[inline(never)]
+fn lines_behind(threads: &ThreadQueues, mirror: &Mirror, shown: u64) -> u32
+    requires shown { shown ≤ length mirror.now.entries }
+    requires few { length threads.now.replies + (length mirror.now.entries - shown) ≤ 2 ^ 31 }
+    ensures { result ≡ length threads.now.replies + (length mirror.now.entries - shown) }
+{
+    (threads.reply_count() + (mirror.len() - shown)) as u32
 }
