@@ -14,7 +14,7 @@ use Rattle.gc_graph.specs.State.{Shape, State, graph_of}
 use Rattle.gc_graph.specs.Sweep.{SweepsInPhase, SweepsToEnd}
 use Rattle.gc_graph.specs.Valid.{IsValid}
 use Rattle.gc_graph.specs.ValidLaw.{OrdersKeepValid}
-use Rattle.sweeper.specs.Sweeping.{cursor_at}
+use Rattle.heap_roots.specs.Sweeping.{cursor_at}
 use Rattle.cross_thread_region.specs.declared.chronicle.PlacedEntry.{PlacedEntry}
 use Rattle.cross_thread_region.specs.Histories.{entries_of, slots_of, IsPlacedBy}
 use Rattle.heap_roots.specs.Calls.{HasEntered}
@@ -28,7 +28,7 @@ use Rattle.heap_cycle.specs.declared.parts.Parts.{Parts}
 use Rattle.heap_cycle.specs.Parts.{setup_of, state_of, AreTied, IsReady}
 use Rattle.heap_cycle.specs.Region.{HasRegion}
 use Rattle.heap_cycle.specs.Ties.{tied_nodes}
-use Rattle.heap_cycle.specs.Took.{took_append}
+use Rattle.heap_roots.specs.Took.{took_append}
 use Rattle.heap_cycle.proofs.EnteredRegion.{placed_entered}
 use Rattle.heap_cycle.proofs.Pieces.{GoesOn, entered_entries, goes_on, others_of, own, piece_is, state_taken}
 use Rattle.heap_cycle.proofs.StartSteps.{starts_after, unprinted_apart}

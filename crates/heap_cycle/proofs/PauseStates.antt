@@ -35,7 +35,7 @@ use Rattle.heap_cycle.specs.Changes.{paused_from, with_taken}
 use Rattle.heap_cycle.specs.Parts.{moment_of, setup_of, state_of, IsReady}
 use Rattle.heap_cycle.specs.Region.{HasRegion}
 use Rattle.heap_cycle.specs.Registrations.{registrations_left}
-use Rattle.heap_cycle.specs.Took.{took_append, took_is}
+use Rattle.heap_roots.specs.Took.{took_append, took_is}
 use Rattle.heap_cycle.specs.Views.{CycleView}
 use Rattle.heap_cycle.proofs.Pieces.{GoesOn, found_is, goes_on, others_of, own, piece_is, state_on}
 

@@ -40,14 +40,13 @@ use Rattle.heap_cycle.specs.Printed.{ran_lines}
 use Rattle.heap_cycle.specs.Region.{HasRegion}
 use Rattle.heap_cycle.specs.Registrations.{lines_ran, counts_run}
 use Rattle.heap_cycle.specs.Ties.{places-same, placed_still, valid_nodes}
-use Rattle.heap_cycle.specs.Took.{others_start_nothing}
 use Rattle.heap_cycle.specs.Views.{CycleView, IsPlaced}
 use Rattle.heap_cycle.proofs.EnteredRegion.{grown, placed_entered, started_entered}
 use Rattle.heap_cycle.proofs.MayTaken.{kept_more, may_grows, may_in}
 use Rattle.heap_cycle.proofs.PauseKeeps.{has_roots, pause_keeps, HasRoots}
 use Rattle.heap_cycle.proofs.PauseStates.{Pauses, before, dying, found, judged_nodes, kept, old_nodes, parts_paused, pause_piece, paused_parts, ready_is, ready_state, registrations}
 use Rattle.heap_cycle.proofs.SweepSteps.{began_marks, began_sweep}
-use Rattle.heap_cycle.proofs.Pieces.{found_is, goes_on}
+use Rattle.heap_cycle.proofs.Pieces.{found_is, others_start_nothing}
 
 module _ (markers : ℕ) (want : Want) (s : Parts) (new : ObjectsView) (left : HandlesView) (after : CycleView) (r : OwnedView) (result : Finished)
     (is : Pauses markers want s new left after r result) (law : ReachIsLeast) (orders : OrdersKeepValid) where

@@ -1,12 +1,15 @@
 -- Pieces of a region's history, as its owner takes them.
-use Rattle.std.proofs.Common.{◌≡◌, ℕ, ◌-◌, ◌≤◌, List, [], ◌∷◌, ◌++◌, length, take, drop, refl, sym, ap, ◌∙◌, arith}
+use Rattle.std.proofs.Common.{◌≡◌, ℕ, ◌-◌, ◌≤◌, Bool, List, [], ◌∷◌, ◌++◌, length, take, drop, refl, sym, ap, ◌∙◌, arith}
+use Rattle.std.specs.Prelude.{Contains}
 use Rattle.std.proofs.Math.Seq.{take-append_seam}
 use Rattle.std.proofs.lemmas.List.{append_assoc, drop_at, drop-append-le, length-append, map-append, take-append-drop}
+use Rattle.std.proofs.lemmas.List.Elements.{All-head, All-tail}
 use Rattle.gc_graph.specs.declared.region.Entry.{Entry}
 use Rattle.gc_graph.specs.declared.line.Line.{Line}
 use Rattle.gc_graph.specs.declared.region.Op.{Op}
-use Rattle.gc_graph.specs.History.{replayed, reply_of}
-use Rattle.gc_graph.specs.Outcomes.{owner_entry, took}
+use Rattle.gc_graph.specs.declared.region.Op.TheVariants as O
+use Rattle.gc_graph.specs.History.{replayed, reply_of, started_after, started_through}
+use Rattle.gc_graph.specs.Outcomes.{AreOthers, IsThreadOp, owner_entry, took}
 use Rattle.gc_graph.specs.State.{State, RegionSlot}
 use Rattle.callback_table.specs.Registry.{registrations_of}
 use Rattle.cross_thread_region.specs.declared.chronicle.PlacedEntry.{PlacedEntry}
@@ -16,7 +19,7 @@ use Rattle.cross_thread_region.specs.OrdersStay.{slots_on}
 use Rattle.heap_roots.specs.Calls.{HasEntered, TakesMore}
 use Rattle.heap_roots.specs.Owned.{OwnedView, found_of, piece_of, untold_of, with_region}
 use Rattle.heap_cycle.specs.declared.parts.Parts.{Parts}
-use Rattle.heap_cycle.specs.Took.{took_is}
+use Rattle.heap_roots.specs.Took.{took_is}
 
 -- what the parts besides the region hold of the state
 abbrev pub others_of : Parts → State
@@ -127,3 +130,23 @@ takes_both a b c first second room = record {
   told = λ none. second.told (first.told none);
   rest = second.rest ∙ ap (λ (v : OwnedView). record v { taken = c.taken; room = c.room; told = c.told }) first.rest;
 }
+
+-- ---- entries of threads
+
+-- entries of threads start no collection and end none
+pub others_start_nothing : (s : State) (started : Bool) (es : List Entry) → AreOthers s es → started_through started es ≡ started
+others_start_nothing s started [] others = refl
+others_start_nothing s started (e ∷ es) others =
+    let Is : Entry → Type 0 = λ (entry : Entry). Contains s.running entry.thread × IsThreadOp entry.op in
+    others_start_nothing s (started_after started e.op) es (All-tail Is e es others)
+    ∙ first started e.op (All-head Is e es others).1
+  where
+    first : (started : Bool) (op : Op) → IsThreadOp op → started_after started op ≡ started
+    first started (O.Export x n) is = absurd is
+    first started (O.Import x) is = absurd is
+    first started O.Start is = absurd is
+    first started (O.Pause cleared) is = absurd is
+    first started (O.Copy x y) is = refl
+    first started (O.Clear x) is = refl
+    first started (O.Weaken x) is = refl
+    first started (O.Upgrade x y) is = refl

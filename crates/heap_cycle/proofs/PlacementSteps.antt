@@ -11,7 +11,7 @@ use Rattle.gc_graph.specs.Placement.{Extent, extent_of, extents_of, IsRun, Fits,
 use Rattle.gc_graph.specs.Sweep.{buried, finalise, phase_at, pages_swept_in, swept_pages, AreDeadInOrder, SweepsInPhase, SweepsTo}
 use Rattle.gc_graph.specs.SweepLaw.{SweepsJoin, SweepIsOne}
 use Rattle.gc_graph.specs.Valid.{IsSettled}
-use Rattle.page_space.specs.Space.{FitsBetween}
+use Rattle.heap_roots.specs.Space.{FitsBetween}
 use Rattle.heap_cycle.specs.Finalising.{IsSearched}
 use Rattle.gc_graph.specs.FinalisedNodes.{there_earlier}
 use Rattle.gc_graph.specs.Members.{Contains-cons, Contains-cons_cases}

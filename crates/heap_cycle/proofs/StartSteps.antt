@@ -21,7 +21,7 @@ use Rattle.gc_graph.specs.Replays.{legal-append}
 use Rattle.gc_graph.specs.Sweep.{SweepsInPhase, SweepsToEnd}
 use Rattle.gc_graph.specs.Valid.{HasMay, IsValid}
 use Rattle.gc_graph.specs.ValidLaw.{StepKeepsValid}
-use Rattle.sweeper.specs.Sweeping.{cursor_at}
+use Rattle.heap_roots.specs.Sweeping.{cursor_at}
 use Rattle.heap_roots.specs.Marks.{HasMarking, HasMarks}
 use Rattle.heap_roots.specs.Objects.{ObjectsView, HaveCallbacks, setup_of_objects, StaysAt}
 use Rattle.heap_cycle.specs.declared.parts.Parts.{Parts}

@@ -20,7 +20,7 @@ use Rattle.gc_graph.specs.Valid.{IsValid, IsSettled, HasMay}
 use Rattle.gc_graph.specs.ValidLaw.{StepKeepsValid}
 use Rattle.callback_table.specs.declared.registry.Registered.{Registered}
 use Rattle.callback_table.specs.Registry.{registrations_of}
-use Rattle.sweeper.specs.Sweeping.{SweepView, cursor_at}
+use Rattle.heap_roots.specs.Sweeping.{SweepView, cursor_at}
 use Rattle.heap_roots.specs.Owned.{with_region}
 use Rattle.heap_cycle.specs.Changes.{SweepsParts}
 use Rattle.heap_roots.specs.Finalising.{IsSweptTo}

@@ -5,7 +5,7 @@ use Rattle.std.proofs.lemmas.List.{length-append}
 use Rattle.gc_graph.specs.declared.phase.Phase.TheVariants.{Idle, Sweeping}
 use Rattle.gc_graph.specs.State.{Shape}
 use Rattle.gc_graph.specs.Sweep.{finalise, phase_at, AreDeadInOrder}
-use Rattle.page_words.specs.Seat.{IsQuiet}
+use Rattle.heap_roots.specs.Seat.{IsQuiet}
 use Rattle.heap_cycle.specs.Changes.{swept_to, SweepsParts}
 use Rattle.heap_roots.specs.Finalising.{IsSweptTo, FinalisesBelow}
 use Rattle.heap_roots.specs.Marks.{ObjectsAreAtRest, HasMarks}

@@ -8,8 +8,8 @@ use Rattle.gc_graph.specs.State.{Setup, State, Shape}
 use Rattle.gc_graph.specs.Sweep.{finalise, swept_pages, SweepsTo}
 use Rattle.gc_graph.specs.SweepLaw.{SweepsJoin, SweepIsOne}
 use Rattle.gc_graph.specs.ValidLaw.{StepKeepsValid}
-use Rattle.page_space.specs.Space.{FitsBetween}
-use Rattle.sweeper.specs.Sweeping.{SweepView, cursor_at}
+use Rattle.heap_roots.specs.Space.{FitsBetween}
+use Rattle.heap_roots.specs.Sweeping.{SweepView, cursor_at}
 use Rattle.heap_cycle.specs.Changes.{SweepsParts}
 use Rattle.heap_roots.specs.Finalising.{AreFewTold}
 use Rattle.heap_cycle.specs.Finalising.{IsSearched}

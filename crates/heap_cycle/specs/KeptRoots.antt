@@ -5,7 +5,7 @@ use Rattle.gc_graph.specs.declared.phase.Phase.TheVariants.{Marking}
 use Rattle.gc_graph.specs.State.{IsLive, roots_of, slot_targets, stack_targets, strong_region_targets}
 use Rattle.gc_graph.specs.Valid.{IsMay, HasMay}
 use Rattle.marker_core.specs.Bodies.{holds}
-use Rattle.sweeper.specs.Sweeping.{cursor_at}
+use Rattle.heap_roots.specs.Sweeping.{cursor_at}
 use Rattle.heap_roots.specs.AmongNodes.{IsAmong, among_left}
 use Rattle.heap_roots.specs.KeptNodes.{place_slot, root_of_slot, slot_node_live}
 use Rattle.heap_roots.specs.Nodes.{place_of}

@@ -10,7 +10,6 @@ pub mod Cycles
 pub mod Registrations
 pub mod Ties
 pub mod KeptRoots
-pub mod Took
 -- Words of the crates below that the crates above name too.
 pub use Rattle.heap_roots.specs.AmongNodes
 pub use Rattle.heap_roots.specs.Barrier
@@ -32,11 +31,14 @@ pub use Rattle.heap_roots.specs.Note
 pub use Rattle.heap_roots.specs.Notes
 pub use Rattle.heap_roots.specs.Objects
 pub use Rattle.heap_roots.specs.Owned
+pub use Rattle.heap_roots.specs.Pages
 pub use Rattle.heap_roots.specs.PairFields
 pub use Rattle.heap_roots.specs.Part
 pub use Rattle.heap_roots.specs.PlacesInWords
 pub use Rattle.heap_roots.specs.Refused
+pub use Rattle.heap_roots.specs.Seat
 pub use Rattle.heap_roots.specs.Stack
 pub use Rattle.heap_roots.specs.StackWords
+pub use Rattle.heap_roots.specs.Sweeping
+pub use Rattle.heap_roots.specs.Took
 pub use Rattle.heap_roots.specs.Wanted
-pub use Rattle.sweeper.specs.Sweeping

@@ -6,7 +6,7 @@ use Rattle.gc_graph.specs.State.{Setup, State, type_at}
 use Rattle.gc_graph.specs.Valid.{IsValid}
 use Rattle.gc_graph.specs.Outcomes.{answered}
 use Rattle.callback_table.specs.Registry.{registered, registrations_of}
-use Rattle.sweeper.specs.Sweeping.{cursor_at}
+use Rattle.heap_roots.specs.Sweeping.{cursor_at}
 use Rattle.heap_roots.specs.PlacesInWords.{places_of_slots}
 use Rattle.heap_cycle.specs.declared.parts.Parts.{Parts}
 use Rattle.heap_roots.specs.Objects.{HaveCallbacks, setup_of_objects}

@@ -11,7 +11,7 @@ use Rattle.gc_graph.specs.State.{Setup, Node, IsLive, slot_targets}
 use Rattle.heap_roots.specs.MarkerCrews.{Marker}
 use Rattle.gc_graph.specs.Valid.{AreLive}
 use Rattle.callback_table.specs.declared.registry.Registered.{Registered}
-use Rattle.sweeper.specs.Sweeping.{cursor_at}
+use Rattle.heap_roots.specs.Sweeping.{cursor_at}
 use Rattle.heap_roots.specs.Nodes.{place_of, AreOfValid}
 use Rattle.heap_roots.specs.PlacesInWords.{places_of_slots}
 use Rattle.heap_roots.specs.Objects.{IsLiveAt, ObjectsView, setup_of_objects, StaysAt}

@@ -5,7 +5,7 @@ use Rattle.gc_graph.specs.State.{Shape, State, Node}
 use Rattle.gc_graph.specs.Sweep.{pages_swept_in}
 use Rattle.callback_table.specs.declared.registry.Registered.{Registered}
 use Rattle.cross_thread_region.specs.declared.chronicle.PlacedEntry.{PlacedEntry}
-use Rattle.sweeper.specs.Sweeping.{SweepView}
+use Rattle.heap_roots.specs.Sweeping.{SweepView}
 use Rattle.heap_roots.specs.Nodes.{place_of}
 
 -- the collection cycle: its phase, how far its sweep has come, the prefinalizers that are registered, with the places of their

@@ -8,7 +8,7 @@ ghost use Rattle.gc_graph.specs.CycleSteps.{is_marking};
 ghost use Rattle.gc_graph.specs.May.{marking};
 ghost use Rattle.cross_thread_region.specs.Histories.{start_told, is_started, IsPlacedBy};
 ghost use Rattle.heap_roots.specs.Nodes.{place_of};
-ghost use Rattle.page_space.specs.Pages.{word_count};
+ghost use Rattle.heap_roots.specs.Pages.{word_count};
 ghost use Rattle.heap_roots.specs.Objects.{refused_of};
 ghost use Rattle.heap_cycle.specs.Cycles.{HasBegun, AreSlotsMarked};
 ghost use Rattle.heap_cycle.specs.Parts.{setup_of, state_of, IsReady};

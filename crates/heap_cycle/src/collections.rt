@@ -7,7 +7,7 @@ ghost use Rattle.gc_graph.specs.declared.phase.Phase.TheVariants.{Marking};
 ghost use Rattle.gc_graph.specs.Outcomes.{answered};
 ghost use Rattle.gc_graph.specs.CycleSteps.{StepGcStart, StepGcStep, StepGcFinish, StepGcNow};
 ghost use Rattle.gc_graph.specs.CycleSteps.{is_marking, is_stack_refused};
-ghost use Rattle.page_space.specs.Pages.{word_count};
+ghost use Rattle.heap_roots.specs.Pages.{word_count};
 ghost use Rattle.callback_table.specs.Table.{callback_kinds};
 ghost use Rattle.heap_cycle.specs.Cycles.{HasPaused, AreSlotsMarked, HasFoundAll, pause_line};
 ghost use Rattle.heap_roots.specs.Calls.{TakesMore};

@@ -14,9 +14,9 @@ use crate::states::{self, States};
 use callback_table::Registry;
 use gc_graph::{NoMemory, Phase};
 use ghost_values::GhostValue;
+use heap_roots::Sweep;
 use std::alloc::Global;
 use std::marker::Model;
-use sweeper::Sweep;
 
 /// How many commands were answered, how many pauses there were, how many objects were finalised, and
 /// how many outcomes were full. A count that comes to its type's last value stays there.

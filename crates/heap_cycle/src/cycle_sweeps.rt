@@ -4,8 +4,8 @@ ghost use Rattle.std.specs.Prelude.{◌≡◌, ◌+◌, ◌*◌, ◌<◌, ◌≤
 ghost use Rattle.gc_graph.specs.declared.phase.Phase.TheVariants.{Sweeping};
 ghost use Rattle.gc_graph.specs.State.{Shape};
 ghost use Rattle.gc_graph.specs.Sweep.{phase_at};
-ghost use Rattle.page_space.specs.Pages.{word_count};
-ghost use Rattle.sweeper.specs.Sweeping.{cursor_at};
+ghost use Rattle.heap_roots.specs.Pages.{word_count};
+ghost use Rattle.heap_roots.specs.Sweeping.{cursor_at};
 ghost use Rattle.heap_roots.specs.Nodes.{AreOfValid};
 ghost use Rattle.heap_roots.specs.Finalising.{IsSweptTo, AreFewTold};
 ghost use Rattle.heap_roots.specs.Marks.{ObjectsAreAtRest};

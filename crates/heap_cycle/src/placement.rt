@@ -3,9 +3,9 @@
 ghost use Rattle.std.specs.Prelude.{◌≡◌, ◌*◌, ◌^◌, ◌<◌, ◌≤◌, [], length, Some};
 ghost use Rattle.std.specs.Prelude.{IfSome, IfNone, vec_capacity};
 ghost use Rattle.gc_graph.specs.Placement.{IsPlacement, IsNowhere, extents_of};
-ghost use Rattle.page_space.specs.Pages.{word_count};
-ghost use Rattle.page_space.specs.Space.{FitsBetween, IsFreePlace};
-ghost use Rattle.sweeper.specs.Sweeping.{cursor_at};
+ghost use Rattle.heap_roots.specs.Pages.{word_count};
+ghost use Rattle.heap_roots.specs.Space.{FitsBetween, IsFreePlace};
+ghost use Rattle.heap_roots.specs.Sweeping.{cursor_at};
 ghost use Rattle.heap_roots.specs.Finalising.{AreFewTold};
 ghost use Rattle.heap_cycle.specs.Finalising.{IsSearched};
 ghost use Rattle.heap_cycle.specs.Parts.{setup_of, state_of, IsManned, IsReady, unregistered};

@@ -6,7 +6,7 @@ ghost use Rattle.gc_graph.specs.declared.phase.Phase.TheVariants.{Idle, Sweeping
 ghost use Rattle.gc_graph.specs.Outcomes.{answered};
 ghost use Rattle.gc_graph.specs.CycleSteps.{StepSweep, StepSweepAll, is_marking};
 ghost use Rattle.gc_graph.specs.Sweep.{SweepsTo, SweepsToEnd};
-ghost use Rattle.page_space.specs.Pages.{word_count};
+ghost use Rattle.heap_roots.specs.Pages.{word_count};
 ghost use Rattle.heap_cycle.specs.Parts.{setup_of, state_of, counted, IsReady, IsFrame, IsManned};
 ghost use Rattle.heap_cycle.specs.Printed.{lines_with};
 

@@ -11,7 +11,7 @@ use Rattle.gc_graph.specs.ThreadLaw.{IsCounted}
 use Rattle.gc_graph.specs.ValidLaw.{EmptyIsValid}
 use Rattle.cross_thread_region.specs.Histories.{slots_of}
 use Rattle.cross_thread_region.specs.PlacedNodes.{named_is_target}
-use Rattle.page_words.specs.Seat.{Heap, empty_view}
+use Rattle.heap_cycle.specs.Seat.{Heap, empty_view}
 use Rattle.heap_cycle.specs.PlacesInWords.{places_of_slots}
 use Rattle.heap_cycle.specs.Objects.{HaveCallbacks, ObjectsView}
 use Rattle.heap_cycle.specs.Notes.{NotesState, no_notes}

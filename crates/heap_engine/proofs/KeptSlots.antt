@@ -14,7 +14,7 @@ use Rattle.gc_graph.specs.State.{State, Node, IsLive, roots_of, slot_targets, st
 use Rattle.gc_graph.specs.Valid.{HasMay}
 use Rattle.object_headers.specs.Offsets.{reference_to}
 use Rattle.marker_core.specs.Bodies.{holds, place_named}
-use Rattle.page_words.specs.Seat.{SeatView}
+use Rattle.heap_cycle.specs.Seat.{SeatView}
 use Rattle.heap_cycle.specs.Sweeping.{cursor_at}
 use Rattle.heap_cycle.specs.Barrier.{MayKeep, MayKeepNamed}
 use Rattle.heap_cycle.specs.AmongNodes.{IsAmong, among_left}

@@ -16,6 +16,5 @@ pub mod NewSteps
 pub mod HeapEmpty
 pub mod Taken
 pub mod ThreadsTold
-pub mod Closing
 pub mod CommandsDone
 pub mod ThreadCommands

@@ -32,7 +32,7 @@ use Rattle.heap_cycle.specs.KeptRoots.{marking_of}
 use Rattle.heap_cycle.specs.Parts.{setup_of, state_of, AreTied, IsManned, IsReady}
 use Rattle.heap_cycle.specs.Printed.{Printed, ran_lines, lines_with}
 use Rattle.heap_cycle.specs.Region.{HasRegion}
-use Rattle.page_space.specs.Pages.{word_count}
+use Rattle.heap_cycle.specs.Pages.{word_count}
 use Rattle.heap_engine.specs.Acted.{IsDealtWith}
 use Rattle.heap_engine.specs.Sound.{items_of}
 

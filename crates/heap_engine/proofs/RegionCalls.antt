@@ -1,12 +1,11 @@
 -- The steps of the owner's calls on the region.
-use Rattle.std.proofs.Common.{◌≡◌, ℕ, ◌+◌, List, [], ◌∷◌, get_or, Option, None, Some, refl, sym, ap, ◌∙◌, subst, inr}
+use Rattle.std.proofs.Common.{◌≡◌, ℕ, List, [], ◌∷◌, get_or, Option, None, Some, refl, sym, ap, ◌∙◌, subst, inr}
 use mathlib.Core.Logic.{◌⊎◌}
 use Rattle.std.specs.Prelude.{MatchOption, option_map}
 use Rattle.gc_graph.specs.declared.line.Line.{Line}
 use Rattle.gc_graph.specs.declared.line.Line.TheVariants as L
 use Rattle.gc_graph.specs.declared.line.Refusal.TheVariants as R
 use Rattle.gc_graph.specs.declared.region.Entry.{Entry}
-use Rattle.gc_graph.specs.declared.region.Op.{Op}
 use Rattle.gc_graph.specs.declared.region.Op.TheVariants as O
 use Rattle.gc_graph.specs.CycleSteps.{WantsMemory}
 use Rattle.gc_graph.specs.History.{node_of, region_slot}
@@ -17,15 +16,11 @@ use Rattle.cross_thread_region.specs.declared.chronicle.PlacedEntry.{PlacedEntry
 use Rattle.cross_thread_region.specs.Histories.{place_at, slot_target, slots_of, IsPlacedBy}
 use Rattle.heap_cycle.specs.Nodes.{place_of}
 use Rattle.heap_cycle.specs.Handles.{HandlesView, put_in}
-use Rattle.heap_cycle.specs.Objects.{refusals_told_of}
 use Rattle.heap_cycle.specs.Owned.{piece_of}
 use Rattle.heap_cycle.specs.declared.parts.Parts.{Parts}
-use Rattle.heap_cycle.specs.Parts.{counted, state_of, AreTied, IsFrame}
-use Rattle.heap_cycle.specs.Ties.{manned_grey, tied_counted}
+use Rattle.heap_cycle.specs.Parts.{state_of}
 use Rattle.heap_cycle.specs.Took.{took_append}
-use Rattle.heap_cycle.specs.Walks.{GoesOnTelling, IsWalkTold}
 use Rattle.heap_engine.proofs.Taken.{HasTaken}
-use Rattle.heap_engine.proofs.Tellings.{tells_kept}
 
 -- the slot's node was exported
 pub step_exported : (s new : Parts) (p x n : ℕ) → get_or s.handles.slots p None ≡ Some n → HasTaken (O.Export x n) s new
@@ -37,18 +32,6 @@ step_exported s new p x n slot has =
     record { before = has.before; takes = has.takes; lines_are = refl; after = ap answered has.state } in
     subst (λ (o : Option ℕ). MatchOption o ((piece ≡ []) × IsRefused R.Null st (L.Fine ∷ []) (answered (state_of new)))
     (λ m. WantsMemory st piece (L.Fine ∷ []) (answered (state_of new)) ⊎ IsExported st m x piece (L.Fine ∷ []) (answered (state_of new)))) (sym slot) (inr done)
-
--- an export frames the parts
-pub frame_taken : (op : Op) (s new : Parts) (line : Line) → AreTied s → HasTaken op s new
-    → (GoesOnTelling s.cycle.phase (refusals_told_of s.objects) (refusals_told_of new.objects) → IsWalkTold s.cycle.phase (refusals_told_of s.objects) (refusals_told_of new.objects) line)
-    → IsFrame s (counted new) line
-frame_taken op s new line tied has plain = record {
-  setup = has.setup;
-  ordinal = ap (λ n. n + 1) has.ordinal;
-  tied = tied_counted new has.tied;
-  manned = manned_grey s new tied has.tied has.grey;
-  refused = plain (tells_kept s.cycle.phase s.objects new.objects has.grey);
-}
 
 -- ---- an import
 

@@ -10,7 +10,7 @@ use Rattle.gc_graph.specs.Reach.{HoldsAll}
 use Rattle.gc_graph.specs.RegionSteps.{HasDoneFirst}
 use Rattle.gc_graph.specs.State.{slot_targets, strong_region_targets}
 use Rattle.gc_graph.specs.Step.{Step}
-use Rattle.page_space.specs.Pages.{word_count}
+use Rattle.heap_cycle.specs.Pages.{word_count}
 use Rattle.heap_cycle.specs.Cycles.{HasNoRefusedNote, HasNoRefusedPush}
 use Rattle.heap_cycle.specs.Notes.{note_of}
 use Rattle.heap_cycle.specs.Walks.{IsWalkToldIn}

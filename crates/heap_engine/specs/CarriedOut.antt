@@ -9,7 +9,7 @@ use Rattle.gc_graph.specs.Step.{Step}
 use Rattle.gc_graph.specs.ThreadLaw.{IsCounted}
 use Rattle.cross_thread_region.specs.Calls.{Begins}
 use Rattle.thread_queues.specs.Going.{AreTotals}
-use Rattle.page_space.specs.Pages.{word_count}
+use Rattle.heap_cycle.specs.Pages.{word_count}
 use Rattle.heap_cycle.specs.Cycles.{AreSlotsMarked, HasFoundAll}
 use Rattle.heap_cycle.specs.Crews.{KeepsTaken}
 use Rattle.heap_cycle.specs.declared.parts.Parts.{Parts}

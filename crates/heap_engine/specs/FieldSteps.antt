@@ -6,7 +6,7 @@ use Rattle.gc_graph.specs.State.{State, node_at}
 use Rattle.gc_graph.specs.Fields.{value_at, with_value, is_pair}
 use Rattle.gc_graph.specs.May.{read_node}
 use Rattle.gc_graph.specs.ObjectSteps.{AtField, IsChanged, IsRead, first_word}
-use Rattle.page_words.specs.Seat.{SeatView}
+use Rattle.heap_cycle.specs.Seat.{SeatView}
 use Rattle.heap_cycle.specs.Barrier.{MayKeepNamed}
 use Rattle.heap_cycle.specs.Part.{Part}
 use Rattle.heap_cycle.specs.Wanted.{Wanted}

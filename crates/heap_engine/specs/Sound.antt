@@ -2,8 +2,8 @@
 use Rattle.std.specs.Prelude.{◌≡◌, ◌⊎◌, ◌*◌, ◌≤◌, true, false, [], ◌++◌, length, drop, All}
 use Rattle.gc_graph.specs.ThreadLaw.{IsCounted}
 use Rattle.marker_core.specs.Bodies.{holds}
-use Rattle.page_space.specs.Pages.{word_count}
-use Rattle.page_words.specs.Seat.{SeatView}
+use Rattle.heap_cycle.specs.Pages.{word_count}
+use Rattle.heap_cycle.specs.Seat.{SeatView}
 use Rattle.cross_thread_region.specs.Histories.{entries_of}
 use Rattle.heap_cycle.specs.PlacesInWords.{kept_of}
 use Rattle.mark_worklist.specs.Families.{at}

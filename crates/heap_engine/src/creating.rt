@@ -6,7 +6,7 @@ ghost use Rattle.gc_graph.specs.declared.command.Command.TheVariants as C;
 ghost use Rattle.gc_graph.specs.State.{type_at};
 ghost use Rattle.gc_graph.specs.Outcomes.{answered};
 ghost use Rattle.gc_graph.specs.ObjectSteps.{StepNew};
-ghost use Rattle.page_space.specs.Pages.{word_count};
+ghost use Rattle.heap_cycle.specs.Pages.{word_count};
 ghost use Rattle.heap_cycle.specs.Objects.{HaveCallbacks};
 ghost use Rattle.heap_cycle.specs.Parts.{setup_of, state_of, counted, registered_in};
 ghost use Rattle.heap_cycle.specs.Parts.{IsReady, IsFrame};

@@ -2,7 +2,7 @@
 
 ghost use Rattle.std.specs.Prelude.{◌≡◌, ◌*◌, ◌≤◌};
 ghost use Rattle.gc_graph.specs.declared.command.Command.TheVariants as C;
-ghost use Rattle.page_space.specs.Pages.{word_count};
+ghost use Rattle.heap_cycle.specs.Pages.{word_count};
 ghost use Rattle.callback_table.specs.Table.{callback_kinds};
 ghost use Rattle.heap_cycle.specs.Parts.{IsReady};
 ghost use Rattle.heap_engine.specs.CarriedOut.{IsAsked, IsCarriedOut, IsDoneAlone, TellsNothing};

@@ -25,3 +25,7 @@ pub use Rattle.marker_crew.specs.Crews as MarkerCrews
 pub use Rattle.marker_crew.specs.Note
 pub use Rattle.marker_crew.specs.Notes
 pub use Rattle.member_fields.specs.Barrier
+pub use Rattle.page_space.specs.Pages
+pub use Rattle.page_space.specs.Space
+pub use Rattle.page_words.specs.Seat
+pub use Rattle.sweeper.specs.Sweeping

@@ -49,3 +49,4 @@ pub use names::Names;
 pub use objects::Objects;
 pub use pair_fields::PairContent;
 pub use pausing::Finished;
+pub use sweeper::Sweep;

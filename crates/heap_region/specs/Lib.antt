@@ -7,3 +7,37 @@ pub mod Taking
 -- For crates above.
 pub mod Took
 pub mod ThreadEntries
+-- Words of the crates below that the crates above name too.
+pub use Rattle.heap_objects.specs.AmongNodes
+pub use Rattle.heap_objects.specs.Barrier
+pub use Rattle.heap_objects.specs.Crews
+pub use Rattle.heap_objects.specs.FieldNodes
+pub use Rattle.heap_objects.specs.FieldReads
+pub use Rattle.heap_objects.specs.Fields
+pub use Rattle.heap_objects.specs.Finalising
+pub use Rattle.heap_objects.specs.Judgement
+pub use Rattle.heap_objects.specs.KeptNodes
+pub use Rattle.heap_objects.specs.MarkerCrews
+pub use Rattle.heap_objects.specs.Marking
+pub use Rattle.heap_objects.specs.Marks
+pub use Rattle.heap_objects.specs.MembersOf
+pub use Rattle.heap_objects.specs.NewNodes
+pub use Rattle.heap_objects.specs.NodePlaces
+pub use Rattle.heap_objects.specs.Nodes
+pub use Rattle.heap_objects.specs.Note
+pub use Rattle.heap_objects.specs.Notes
+pub use Rattle.heap_objects.specs.Objects
+pub use Rattle.heap_objects.specs.Pages
+pub use Rattle.heap_objects.specs.PairFields
+pub use Rattle.heap_objects.specs.Pausing
+pub use Rattle.heap_objects.specs.PlacesInWords
+pub use Rattle.heap_objects.specs.Refused
+pub use Rattle.heap_objects.specs.Seat
+pub use Rattle.heap_objects.specs.Space
+pub use Rattle.heap_objects.specs.Sweeping
+pub use Rattle.heap_objects.specs.SweptNodes
+pub use Rattle.heap_objects.specs.WeakNodes
+pub use Rattle.heap_objects.specs.declared.field.Field
+pub use Rattle.heap_objects.specs.declared.field.Part
+pub use Rattle.heap_objects.specs.declared.field.Wanted
+pub use Rattle.heap_objects.specs.declared.pausing.Finished

@@ -31,6 +31,7 @@ mod telling;
 mod threads;
 
 pub use heap_objects::{
-    Content, CrewLists, Field, Finished, FreeGate, Gate, Objects, PairContent, Part, Wanted,
+    Content, CrewLists, Field, Finished, FreeGate, Gate, Names, Objects, PairContent, Part, Sweep,
+    Values, Wanted,
 };
 pub use owned::OwnedRegion;

@@ -7,9 +7,9 @@ use Rattle.gc_graph.specs.Valid.{AreLive, region_targets}
 use Rattle.cross_thread_region.specs.declared.chronicle.PlacedEntry.{PlacedEntry}
 use Rattle.cross_thread_region.specs.Histories.{slots_of, start_told}
 use Rattle.cross_thread_region.specs.PlacedNodes.{strong_target_is_target, strong_place_named, told_strong}
-use Rattle.heap_objects.specs.AmongNodes.{IsAmong, among_left, among_right}
-use Rattle.heap_objects.specs.Nodes.{place_of}
-use Rattle.heap_objects.specs.Marks.{TellsRoots}
+use Rattle.heap_region.specs.AmongNodes.{IsAmong, among_left, among_right}
+use Rattle.heap_region.specs.Nodes.{place_of}
+use Rattle.heap_region.specs.Marks.{TellsRoots}
 use Rattle.heap_roots.specs.Handles.{HandlesView}
 use Rattle.heap_region.specs.Handled.{IsHandled}
 use Rattle.heap_roots.specs.Roots.{roots_in}

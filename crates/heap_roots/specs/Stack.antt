@@ -5,7 +5,7 @@ use Rattle.gc_graph.specs.declared.command.Want.TheVariants.{Precise, Conservati
 use Rattle.gc_graph.specs.State.{Node, StackWord, node_at, size_of}
 use Rattle.gc_graph.specs.State.StackWord.{Pointer, Number}
 use Rattle.gc_graph.specs.May.{address_of}
-use Rattle.heap_objects.specs.Nodes.{place_of}
+use Rattle.heap_region.specs.Nodes.{place_of}
 
 -- the words of the stack, the last one first; and in the order in which they were pushed the address that each is, and the place
 -- of the object to which it points, if it is a pointer

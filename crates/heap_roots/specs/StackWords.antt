@@ -7,8 +7,8 @@ use Rattle.gc_graph.specs.State.{Node, StackWord, node_at, size_of, IsLive, stac
 use Rattle.gc_graph.specs.State.StackWord.{Pointer, Number}
 use Rattle.gc_graph.specs.May.{address_of}
 use Rattle.gc_graph.specs.Valid.{AreLive}
-use Rattle.heap_objects.specs.Nodes.{place_of}
-use Rattle.heap_objects.specs.Objects.{IsLiveAt, StaysAt}
+use Rattle.heap_region.specs.Nodes.{place_of}
+use Rattle.heap_region.specs.Objects.{IsLiveAt, StaysAt}
 use Rattle.heap_roots.specs.Stack.{StackView, pointed_place, PointsInside, HoldsWords, without_last}
 
 -- ---- the nodes stay

@@ -13,7 +13,7 @@ use crate::slot_lists::{self, SlotLists};
 use crate::stack::Stack;
 use gc_graph::NoMemory;
 use ghost_values::GhostValue;
-use heap_objects::{Content, Names};
+use heap_region::{Content, Names};
 use object_headers::reference_to;
 use persistent_slots::Slots;
 use std::alloc::Global;

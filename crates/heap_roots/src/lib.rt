@@ -24,8 +24,8 @@ mod stack;
 mod stack_words;
 
 pub use handles::Handles;
-pub use heap_objects::{
-    Content, CrewLists, Field, Finished, FreeGate, Gate, Objects, PairContent, Part, Wanted,
+pub use heap_region::{
+    Content, CrewLists, Field, Finished, FreeGate, Gate, Objects, OwnedRegion, PairContent, Part,
+    Sweep, Wanted,
 };
-pub use heap_region::OwnedRegion;
 pub use stack::{Pushed, Stack};

@@ -7,7 +7,7 @@ ghost use Rattle.gc_graph.specs.ObjectSteps.{part_of};
 ghost use Rattle.gc_graph.specs.Pause.{is_dead_at, clear_slot};
 
 use ghost_values::GhostValue;
-use heap_objects::{Names, Objects, Values};
+use heap_region::{Names, Objects, Values};
 use std::marker::Model;
 
 /// A list of what slots name. It is never made.

@@ -2,8 +2,8 @@ use Rattle.std.proofs.Common.{◌≡◌, List, refl, sym, ap, ◌∙◌, subst}
 use Rattle.gc_graph.specs.declared.phase.Phase.TheVariants.{Idle, Marking}
 use Rattle.gc_graph.specs.CycleSteps.{is_marking}
 use Rattle.gc_graph.specs.State.{Node}
-use Rattle.page_words.specs.Seat.{IsQuiet}
-use Rattle.sweeper.specs.Sweeping.{cursor_at}
+use Rattle.heap_roots.specs.Seat.{IsQuiet}
+use Rattle.heap_roots.specs.Sweeping.{cursor_at}
 use Rattle.heap_roots.specs.Nodes.{place_of}
 use Rattle.heap_roots.specs.Marks.{ObjectsAreAtRest, HasMarks}
 use Rattle.heap_roots.specs.Handled.{IsHandled}

@@ -1,6 +1,6 @@
 use Rattle.std.proofs.Common.{◌≡◌, [], length, ap, ◌∙◌, arith}
-use Rattle.page_space.specs.Pages.{word_count}
-use Rattle.sweeper.specs.Sweeping.{cursor_at}
+use Rattle.heap_roots.specs.Pages.{word_count}
+use Rattle.heap_roots.specs.Sweeping.{cursor_at}
 use Rattle.heap_cycle.specs.declared.parts.Parts.{Parts}
 use Rattle.heap_roots.specs.Finalising.{AreFewTold}
 use Rattle.heap_cycle.specs.Parts.{unregistered}

@@ -1,6 +1,6 @@
 use Rattle.std.proofs.Common.{◌≡◌, ◌+◌, ◌*◌, ◌<◌, length, refl, sym, ap, ◌∙◌, subst, arith}
 use Rattle.gc_graph.specs.State.{Setup}
-use Rattle.sweeper.specs.Sweeping.{SweepView, cursor_at}
+use Rattle.heap_roots.specs.Sweeping.{SweepView, cursor_at}
 use Rattle.heap_cycle.specs.declared.parts.Parts.{Parts}
 use Rattle.heap_roots.specs.Finalising.{AreFewTold}
 use Rattle.heap_cycle.specs.Finalising.{IsSearched}

@@ -1,8 +1,8 @@
 use Rattle.std.proofs.Common.{◌≡◌, ℕ, List, ◌++◌, length, sym, ap, ◌∙◌, subst, arith}
 use Rattle.gc_graph.specs.declared.phase.Phase.TheVariants.{Sweeping}
 use Rattle.gc_graph.specs.Sweep.{SweepsTo}
-use Rattle.page_space.specs.Pages.{word_count}
-use Rattle.sweeper.specs.Sweeping.{cursor_at}
+use Rattle.heap_roots.specs.Pages.{word_count}
+use Rattle.heap_roots.specs.Sweeping.{cursor_at}
 use Rattle.heap_cycle.specs.declared.parts.Parts.{Parts}
 use Rattle.heap_cycle.specs.Parts.{state_of}
 use Rattle.heap_cycle.specs.Ties.{manned_grey, valid_nodes}

@@ -4,8 +4,8 @@ use Rattle.gc_graph.specs.declared.phase.Phase.TheVariants.{Sweeping}
 use Rattle.gc_graph.specs.Shapes.{IsShape}
 use Rattle.gc_graph.specs.State.{Setup, State, Shape}
 use Rattle.gc_graph.specs.Sweep.{SweepsTo}
-use Rattle.page_space.specs.Pages.{word_count}
-use Rattle.sweeper.specs.Sweeping.{SweepView, cursor_at}
+use Rattle.heap_roots.specs.Pages.{word_count}
+use Rattle.heap_roots.specs.Sweeping.{SweepView, cursor_at}
 use Rattle.heap_cycle.specs.declared.parts.Parts.{Parts}
 use Rattle.heap_cycle.specs.Finalising.{SweepsOn}
 use Rattle.heap_roots.specs.Finalising.{AreFewTold}

@@ -1,5 +1,5 @@
 use Rattle.std.proofs.Common.{◌≡◌, ◌+◌, [], vec_capacity}
-use Rattle.sweeper.specs.Sweeping.{cursor_at}
+use Rattle.heap_roots.specs.Sweeping.{cursor_at}
 use Rattle.heap_roots.specs.Finalising.{AreFewTold}
 use Rattle.heap_cycle.specs.Finalising.{SweepsOn}
 use Rattle.heap_cycle.specs.Parts.{setup_of, state_of, IsReady}

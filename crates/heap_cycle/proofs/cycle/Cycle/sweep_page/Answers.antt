@@ -1,7 +1,7 @@
 use Rattle.std.proofs.Common.{◌≡◌, ℕ, ◌+◌, refl, sym, ap, ◌∙◌, subst}
 use Rattle.gc_graph.specs.State.{Setup}
 use Rattle.gc_graph.specs.Sweep.{phase_at}
-use Rattle.sweeper.specs.Sweeping.{SweepView, cursor_at}
+use Rattle.heap_roots.specs.Sweeping.{SweepView, cursor_at}
 use Rattle.heap_cycle.specs.Changes.{swept_to, SweepsParts}
 use Rattle.heap_roots.specs.Objects.{ObjectsView}
 use Rattle.heap_cycle.specs.Views.{CycleView}

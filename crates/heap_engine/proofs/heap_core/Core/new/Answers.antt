@@ -5,7 +5,7 @@ use Rattle.gc_graph.specs.State.{Shape}
 use Rattle.callback_table.specs.Table.{callback_kinds}
 use Rattle.marker_core.specs.Bodies.{holds}
 use Rattle.cross_thread_region.specs.Histories.{entries_of}
-use Rattle.page_words.specs.Seat.{Heap}
+use Rattle.heap_cycle.specs.Seat.{Heap}
 use Rattle.heap_cycle.specs.PlacesInWords.{kept_of}
 use Rattle.heap_cycle.specs.Objects.{refusals_told_of}
 use Rattle.heap_cycle.specs.declared.parts.Parts.{Parts}

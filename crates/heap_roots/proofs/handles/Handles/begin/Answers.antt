@@ -3,9 +3,9 @@ use Rattle.gc_graph.specs.State.{Node}
 use Rattle.gc_graph.specs.Valid.{AreLive}
 use Rattle.cross_thread_region.specs.declared.chronicle.PlacedEntry.{PlacedEntry}
 use Rattle.cross_thread_region.specs.PlacedNodes.{strong_is_told, strong_place_below}
-use Rattle.heap_objects.specs.AmongNodes.{IsAmong}
+use Rattle.heap_region.specs.AmongNodes.{IsAmong}
 use Rattle.std.specs.Prelude.{Contains, ◌+◌}
-use Rattle.heap_objects.specs.Marks.{NameRoots, TellsRoots}
+use Rattle.heap_region.specs.Marks.{NameRoots, TellsRoots}
 use Rattle.heap_roots.specs.Handles.{HandlesView}
 use Rattle.heap_roots.specs.Roots.{roots_in}
 use Rattle.heap_roots.proofs.RegionRoots.{slot_among, roots_live, tells_roots}
