@@ -23,6 +23,10 @@ mod headers;
 #[cfg(test)]
 mod lists;
 #[cfg(test)]
+mod lock_passes;
+#[cfg(test)]
+mod lock_turns;
+#[cfg(test)]
 mod region_passes;
 #[cfg(test)]
 mod region_pauses;

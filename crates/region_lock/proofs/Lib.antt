@@ -1,0 +1,6 @@
+mod Counting
+mod OtherViews
+mod Rosters
+mod Turns
+mod Sharing
+mod Passing
