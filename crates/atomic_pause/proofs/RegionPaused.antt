@@ -1,21 +1,21 @@
 -- The region through a pause.
-use Rattle.std.proofs.Common.{◌≡◌, ◌≢◌, ℕ, ◌-◌, Bool, true, not, List, [], ◌∷◌, ◌++◌, length, take, Some, arith, sym, ap, ◌∙◌, subst}
+use Rattle.std.proofs.Common.{◌≡◌, ℕ, ◌-◌, Bool, not, List, [], ◌∷◌, ◌++◌, length, take, All, Some, None, arith, sym, ap, ◌∙◌, subst}
 use Rattle.std.proofs.Math.Seq.{take-append_seam}
 use Rattle.std.proofs.lemmas.List.{length-append}
 use Rattle.std.proofs.lemmas.List.Elements.{All-contains}
-use Rattle.gc_graph.specs.declared.region.Op.{Op}
 use Rattle.gc_graph.specs.declared.region.Op.TheVariants as O
 use Rattle.gc_graph.specs.State.{Node, node_at, is_dead, IsLive}
 use Rattle.gc_graph.specs.Valid.{AreLive, region_targets}
-use Rattle.gc_graph.specs.History.{region_slot, node_of, reply_of, IsLegal, NamesWeakSlots}
+use Rattle.gc_graph.specs.History.{region_slot, node_of, IsLegal, NamesWeakSlots}
 use Rattle.gc_graph.specs.Pause.{dying_slots, is_dead_at}
+use Rattle.gc_graph.specs.Outcomes.{IsThreadOp}
 use Rattle.gc_graph.specs.ActionLaw.{HaveStayed}
 use Rattle.marker_core.specs.Bodies.{IsPlace, holds}
 use Rattle.page_words.specs.Seat.{SeatView}
 use Rattle.cross_thread_region.specs.declared.chronicle.PlacedEntry.{PlacedEntry}
-use Rattle.cross_thread_region.specs.Histories.{entries_of, slots_of, is_started, strong_place, weak_place, IsPlacedBy}
-use Rattle.cross_thread_region.specs.Calls.{RegionView, PassView, AreByRight, Continues, IsPassReady, first_pass, free_history, held_by_pause, given_back, history_with_own, placed_entry_of}
-use Rattle.cross_thread_region.specs.OrdersStay.{live_after, placed_after, started_on, rest_orders}
+use Rattle.cross_thread_region.specs.Histories.{entries_of, slots_of, strong_place, weak_place, IsPlacedBy}
+use Rattle.cross_thread_region.specs.Calls.{RegionView, PassView, HeldView, Continues, Finds, with_turn, after_turn, seeing, history_with_own, placed_entry_of}
+use Rattle.cross_thread_region.specs.OrdersStay.{live_after, placed_after, rest_orders}
 use Rattle.cross_thread_region.specs.Pauses.{history_paused, dying_of}
 use Rattle.cross_thread_region.specs.PlacedNodes.{named_is_target, strong_slot_of, weak_slot_of}
 use Rattle.cross_thread_region.specs.DyingSlots.{dying_are_dead}
@@ -35,20 +35,14 @@ pub record NamesLive (nodes : List Node) (history : List PlacedEntry) : Type 0 w
   pub placed : IsPlacedBy (place_of nodes) history
 
 -- what a pause finds is so, as threads' orders leave it so
-pub found_live : (nodes : List Node) (region : RegionView) (pass : PassView) (history : List PlacedEntry) → IsPausable nodes region pass → Continues pass history
-    → AreByRight history → NamesLive nodes history
-found_live nodes region pass history may found right =
+pub found_live : (nodes : List Node) (region : RegionView) (pass : PassView) (history : List PlacedEntry) → IsPausable nodes region pass → Finds pass history → NamesLive nodes history
+found_live nodes region pass history may finds =
+    let found : Continues pass history = finds.goes_on in
+    let orders : All (λ (p : PlacedEntry). IsThreadOp p.entry.op) found.rest = rest_orders pass history found may.first finds.right in
     subst (NamesLive nodes) (sym found.all) (record {
-      live = live_after nodes (place_of nodes) pass.seen found.rest may.live may.placed (rest_orders pass history found may.first right);
-      placed = placed_after nodes (place_of nodes) pass.seen found.rest may.live may.placed (rest_orders pass history found may.first right);
+      live = live_after nodes (place_of nodes) pass.seen found.rest may.live may.placed orders;
+      placed = placed_after nodes (place_of nodes) pass.seen found.rest may.live may.placed orders;
     })
-
--- and they end no collection
-pub still_started : (nodes : List Node) (region : RegionView) (pass : PassView) → IsPausable nodes region pass → AreByRight (free_history region)
-    → is_started (free_history region) ≡ true
-still_started nodes region pass may right =
-    let found : Continues pass (free_history region) = may.ready.is_pass in
-    ap is_started found.all ∙ started_on pass.seen found.rest (rest_orders pass (free_history region) found may.first right) ∙ may.started
 
 -- what the pass has seen ends with the pause's entry
 pub before_own : (history : List PlacedEntry) (placed : PlacedEntry) (passed : PassView) → passed.seen ≡ history ++ placed ∷ [] → found_before passed ≡ history
@@ -100,44 +94,23 @@ cleared_are_dead nodes new y z history names stayed marks =
 abbrev with_pause : List Node → List PlacedEntry → List PlacedEntry
 with_pause nodes history = history_with_own history (O.Pause (dying_slots nodes (slots_of history))) 0
 
--- the pass, where it has seen this history
-abbrev pass_with : PassView → List PlacedEntry → PassView
-pass_with pass history = record pass { seen = history }
-
--- the owner's pass is the first one
-own_entry : (history : List PlacedEntry) (pass : PassView) (op : Op) → pass.number ≡ 0 → history ++ placed_entry_of pass history op 0 ∷ [] ≡ history_with_own history op 0
-own_entry history pass op first =
-    ap (λ k. history ++ (record { entry = record { thread = k; op = op; reply = reply_of (slots_of history) op }; place = 0 }) ∷ []) first
-
--- a pause that clears the slots of the number (mask) leaves this history
-left_is : (new : List Node) (history : List PlacedEntry) (mask : ℕ) (pass same : PassView) → pass.number ≡ 0 → same ≡ pass → mask ≡ dying_slots new (slots_of history)
-    → history_paused same history mask ≡ with_pause new history
-left_is new history mask pass same first pass_is cleared =
-    ap (λ (s : PassView). history_paused s history mask) pass_is ∙ ap (history_paused pass history) cleared
-    ∙ own_entry history pass (O.Pause (dying_slots new (slots_of history))) first
-
--- the region was held by the pause (taken), and has its history back
-pub region_paused : (new : List Node) (history : List PlacedEntry) (mask : ℕ) (old taken after : RegionView) (pass same passed : PassView) → Continues pass history
-    → pass.number ≡ 0 → AreByRight history → history ≡ free_history old → mask ≡ dying_slots new (slots_of history) → taken ≡ held_by_pause old → same ≡ pass
-    → after ≡ given_back taken (history_paused same history mask) → passed ≡ record same { seen = free_history after } → IsPassReady after passed
-    → ((other : PassView) → Continues other history → other.number ≢ 0 → IsPassReady after other) → IsLegal (entries_of (free_history after))
-    → NamesWeakSlots mask (slots_of history) → IsPausedRegion new old pass after passed
-region_paused new history mask old taken after pass same passed found first right held cleared taken_is pass_is given saw ready_so others legal_so weak_so =
-    let back : after ≡ given_back old (with_pause new history) =
-    given ∙ ap (λ t. given_back t (history_paused same history mask)) taken_is ∙ ap (given_back old) (left_is new history mask pass same first pass_is cleared) in
-    let left : passed.seen ≡ free_history after = ap (λ (s : PassView). s.seen) saw in
-    let seen_is : passed ≡ pass_with pass (with_pause new history) =
-    saw ∙ ap (λ (s : PassView). pass_with s (free_history after)) pass_is ∙ ap (λ (r : RegionView). pass_with pass (free_history r)) back in
+-- the pass (same) had the turn in which this was held, and has given it back (passed)
+pub region_paused : (new : List Node) (held : HeldView) (mask : ℕ) (pass same passed : PassView) → Finds pass held.history → pass.number ≡ 0 → pass.turn ≡ None
+    → mask ≡ dying_slots new (slots_of held.history) → same ≡ with_turn pass held → passed ≡ after_turn same (history_paused held.history mask)
+    → IsLegal (entries_of passed.seen) → NamesWeakSlots mask (slots_of held.history) → IsPausedRegion new pass passed
+region_paused new held mask pass same passed finds first free cleared taken given legal_so weak_so =
+    let history : List PlacedEntry = held.history in
+    let found : Continues pass history = finds.goes_on in
+    let back : passed ≡ after_turn pass (with_pause new history) =
+    given ∙ ap (λ (s : PassView). after_turn s (history_paused history mask)) taken ∙ ap (λ k. after_turn pass (history_paused history k)) cleared in
+    let seen_is : passed ≡ seeing pass (with_pause new history) =
+    back ∙ sym (ap (λ t. record pass { seen = with_pause new history; turn = t }) free) in
     record {
       others = found.rest;
-      found = sym held ∙ found.all;
       outs = found.outs first;
-      orders = rest_orders pass history found first right;
-      before = before_own history (placed_entry_of first_pass history (O.Pause (dying_slots new (slots_of history))) 0) passed (ap (λ (s : PassView). s.seen) seen_is) ∙ found.all;
-      seen = seen_is ∙ ap (λ h. pass_with pass (with_pause new h)) found.all;
+      orders = rest_orders pass history found first finds.right;
+      before = before_own history (placed_entry_of 0 history (O.Pause (dying_slots new (slots_of history))) 0) passed (ap (λ (s : PassView). s.seen) seen_is) ∙ found.all;
+      seen = seen_is ∙ ap (λ h. seeing pass (with_pause new h)) found.all;
       weak = subst (λ h. NamesWeakSlots (dying_slots new (slots_of h)) (slots_of h)) found.all (subst (λ k. NamesWeakSlots k (slots_of history)) cleared weak_so);
-      legal = subst (λ h. IsLegal (entries_of h)) (sym left) legal_so;
-      region = back ∙ ap (given_back old) (sym (ap (λ (s : PassView). s.seen) seen_is));
-      ready = ready_so;
-      still = λ other is far. others other (subst (Continues other) (sym held) is.is_pass) far;
+      legal = legal_so;
     }

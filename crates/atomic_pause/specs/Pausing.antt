@@ -1,5 +1,5 @@
 -- What a pause does to the nodes: which it keeps, which it condemns, and what their prefinalizers do.
-use Rattle.std.specs.Prelude.{◌≡◌, ◌≢◌, ◌⊎◌, ℕ, ◌-◌, ◌<◌, ◌++◌, Bool, true, false, List, [], length, filter, take, All, Contains, Option}
+use Rattle.std.specs.Prelude.{◌≡◌, ◌⊎◌, ℕ, ◌-◌, ◌<◌, ◌++◌, Bool, true, false, List, [], length, filter, take, All, Contains, Option}
 use Rattle.std.specs.List.{list_any, range_with_len}
 use Rattle.gc_graph.specs.declared.action.ActionKind.{ActionKind}
 use Rattle.gc_graph.specs.Graph.{has, IsClosed, IsWithin}
@@ -12,7 +12,7 @@ use Rattle.gc_graph.specs.Pause.{condemn, dying_slots, run_order, prefinalised}
 use Rattle.gc_graph.specs.History.{IsLegal, NamesWeakSlots}
 use Rattle.gc_graph.specs.Outcomes.{IsThreadOp}
 use Rattle.gc_graph.specs.ActionLaw.{HaveStayed}
-use Rattle.cross_thread_region.specs.Calls.{RegionView, PassView, IsPassReady, free_history, given_back, history_with_own}
+use Rattle.cross_thread_region.specs.Calls.{RegionView, PassView, IsPassReady, history_with_own, seeing}
 use Rattle.cross_thread_region.specs.declared.chronicle.PlacedEntry.{PlacedEntry}
 use Rattle.cross_thread_region.specs.Histories.{entries_of, slots_of, is_started, IsPlacedBy}
 use Rattle.callback_table.specs.Registry.{registrations_of, pairs_run, entries_left, RegistryView}
@@ -87,16 +87,12 @@ pub record IsPausable (nodes : List Node) (region : RegionView) (pass : PassView
   pub placed : IsPlacedBy (place_of nodes) pass.seen
 
 -- the pause found orders of threads behind what its pass had seen, whose passes are out, and made its entry behind these, which clears
--- exactly the weak slots that name one of the dead nodes, as the slots were then; and the pass has seen it all
-pub record IsPausedRegion (nodes : List Node) (old : RegionView) (pass : PassView) (new : RegionView) (passed : PassView) : Type 0 where
+-- exactly the weak slots that name one of the dead nodes, as the slots were then; and the pass has seen it all, and has no turn
+pub record IsPausedRegion (nodes : List Node) (pass passed : PassView) : Type 0 where
   pub others : List PlacedEntry
-  pub found : free_history old ≡ pass.seen ++ others
   pub outs : All (λ (p : PlacedEntry). Contains pass.out p.entry.thread) others
   pub orders : All (λ (p : PlacedEntry). IsThreadOp p.entry.op) others
   pub before : found_before passed ≡ pass.seen ++ others
-  pub seen : passed ≡ record pass { seen = history_with_own (pass.seen ++ others) (O.Pause (dying_slots nodes (slots_of (pass.seen ++ others)))) 0 }
+  pub seen : passed ≡ seeing pass (history_with_own (pass.seen ++ others) (O.Pause (dying_slots nodes (slots_of (pass.seen ++ others)))) 0)
   pub weak : NamesWeakSlots (dying_slots nodes (slots_of (pass.seen ++ others))) (slots_of (pass.seen ++ others))
   pub legal : IsLegal (entries_of passed.seen)
-  pub region : new ≡ given_back old passed.seen
-  pub ready : IsPassReady new passed
-  pub still : (other : PassView) → IsPassReady old other → other.number ≢ 0 → IsPassReady new other

@@ -7,7 +7,7 @@
 //! The parts: `visit_slots`, which marks what the strong slots name, at the start of a cycle too, and
 //! `visit_told`, which does so there for the region's; `pause`, which works on `Parts` that their
 //! owners lend and answers a `PauseResult`. It calls, in this order, `mark_out`, `clear_weak`,
-//! `clear_region` and `prefinalise`, and holds the region from the roots until its weak slots are
+//! `clear_region` and `prefinalise`, and has the region's lock from the roots until its weak slots are
 //! cleared. `mark_out` is `visit_slots`, `visit_region` and `scan_stack` (the roots), and then `close`
 //! (the marking list is drained and pairs come to their fixpoint). The next level down is
 //! `ephemerons`, `weak_clearing`, `cross_thread_region` and `callback_table`.

@@ -45,11 +45,11 @@ pub fn mark_out(
     requires ready { IsReadyToEnd types.now seat.old marking.old notes.old }
     requires may { (p : ℕ) → Contains strong.now (Some p) → holds seat.old.may p ≡ true }
     requires strong { All (λ slot. ForSome slot (IsPlace seat.old.bodies)) strong.now }
-    requires shared { (x p : ℕ) → strong_place held.now x ≡ Some p
+    requires shared { (x p : ℕ) → strong_place held.now.history x ≡ Some p
         → IsPlace seat.old.bodies p }
     ensures over { MarksReachable types.now
-        (IsRootPlace strong.now held.now precise seat.old.bodies stack.now)
-        (IsMayOrRoot held.now precise seat.old stack.now) seat.old seat.new }
+        (IsRootPlace strong.now held.now.history precise seat.old.bodies stack.now)
+        (IsMayOrRoot held.now.history precise seat.old stack.now) seat.old seat.new }
     ensures traced { traced_count seat.old + result ≡ marked_count seat.new }
     ensures list { marking.new.list.items ≡ [] }
     ensures off { marking.new.on ≡ false }

@@ -19,7 +19,6 @@ use weak_clearing::Space;
 /// | `marking` | the owner's marking state |
 /// | `weak` | weak slots |
 /// | `registry` | the registered prefinalizers |
-/// | `region` | the slots that threads share |
 /// | `pass` | the owner's pass of the region |
 ///
 /// | lent to be read | what it is |
@@ -27,6 +26,7 @@ use weak_clearing::Space;
 /// | `space` | the pages, and the words |
 /// | `types` | the types of the objects |
 /// | `strong` | strong slots |
+/// | `region` | the slots that threads share |
 /// | `callbacks` | what prefinalizers do |
 ///
 /// | told | what it is |
@@ -38,11 +38,11 @@ pub struct Parts<'a> {
     pub marking: &'a mut Marking,
     pub weak: &'a mut Slots,
     pub registry: &'a mut Registry,
-    pub region: &'a mut Region,
     pub pass: &'a mut Pass,
     pub space: &'a Space,
     pub types: &'a TypeTable,
     pub strong: &'a Slots,
+    pub region: &'a Region,
     pub callbacks: &'a CallbackTable,
     pub traced: u32,
 }

@@ -24,7 +24,7 @@ ghost use Rattle.atomic_pause.specs.Pausing.{NamePlaces, IsMayWithin, hits_in};
 ghost use Rattle.atomic_pause.specs.Pausing.{IsPaused, IsPlaceOfKept};
 ghost use Rattle.atomic_pause.specs.Pausing.{IsPausable, IsPausedRegion, shared_roots};
 ghost use Rattle.atomic_pause.specs.Left.{seat_left, nodes_left, marking_left};
-ghost use Rattle.atomic_pause.specs.Left.{weak_left, registry_left, region_left, pass_left};
+ghost use Rattle.atomic_pause.specs.Left.{weak_left, registry_left, pass_left};
 
 use crate::clearing::clear_weak;
 use crate::closing::is_refused;
@@ -34,6 +34,7 @@ use crate::parts::{Parts, PauseResult};
 use crate::prefinalizing::prefinalise;
 use crate::region_clearing::clear_region;
 use ephemerons::Pairs;
+use std::sync::Wait;
 
 /// Keeps what the roots reach and condemns the other objects. The roots are what the strong slots
 /// name, those of the region too in the history that the pause found, and, unless the pause is
@@ -41,8 +42,15 @@ use ephemerons::Pairs;
 /// and conservative garbage collection). It is called while marking goes on, by the thread that owns
 /// the heap, once no marker has a view or a share; what was marked before it keeps too. Each marker's
 /// notes may be a group of their own. Refusals of memory stay told in the marking state and the
-/// notes, until their owner clears these.
-pub fn pause(parts: Parts, notes: &mut [Pairs], stack: &[u64], precise: bool) -> PauseResult
+/// notes, until their owner clears these. It waits for its turn at the region, which ends once the
+/// region's weak slots are cleared.
+pub fn pause<R: Wait>(
+    rt: &R,
+    parts: Parts,
+    notes: &mut [Pairs],
+    stack: &[u64],
+    precise: bool,
+) -> PauseResult
     requires heap { IsSpaceOf parts.space.now parts.seat.now }
     requires types { parts.seat.now.types ≡ parts.types.now }
     requires valid { AreOfValid
@@ -75,8 +83,7 @@ pub fn pause(parts: Parts, notes: &mut [Pairs], stack: &[u64], precise: bool) ->
         (weak_left parts.exit).now ≡ places_of_slots (nodes_left parts.exit).now.value
         (map (clear_slot (is_dead_at (nodes_left parts.exit).now.value)) slots) }
     ensures region { IsPausedRegion (nodes_left parts.exit).now.value
-        parts.entry.region.now parts.entry.pass.now
-        (region_left parts.exit).now (pass_left parts.exit).now }
+        parts.entry.pass.now (pass_left parts.exit).now }
     ensures ready { IsPrepared parts.entry.space.now parts.entry.types.now
         (seat_left parts.exit).now (nodes_left parts.exit).now.value }
     ensures extents { extents_of_bodies (seat_left parts.exit).now.bodies
@@ -111,18 +118,17 @@ pub fn pause(parts: Parts, notes: &mut [Pairs], stack: &[u64], precise: bool) ->
         marking,
         weak,
         registry,
-        region,
         pass,
         space,
         types,
         strong,
+        region,
         callbacks,
         traced,
     } = parts;
     gc_graph::reach_is_least();
     seat.bodies_lie_apart();
-    region.is_legal();
-    let held = region.pause_begin(pass);
+    let held = region.pause_begin(rt, pass);
     let more = mark_out(
         space, types, seat, marking, notes, strong, &held, stack, precise,
     );

@@ -1,8 +1,8 @@
 // Weak clearing of the region: its weak slots that name an object that was not marked become null,
 // with the pause's entry.
 
-ghost use Rattle.std.specs.Prelude.{◌≡◌, ◌≢◌, ◌<◌, ◌+◌, ◌==◌, ℕ, true, false, not};
-ghost use Rattle.std.specs.Prelude.{Some, None, Contains};
+ghost use Rattle.std.specs.Prelude.{◌≡◌, ◌<◌, ◌+◌, ◌==◌, ℕ, true, false, not};
+ghost use Rattle.std.specs.Prelude.{Some, Contains};
 ghost use Rattle.std.specs.Io.{StartsWith};
 ghost use Rattle.std.specs.List.{list_any};
 ghost use Rattle.std.specs.Option.{ForSome};
@@ -13,8 +13,7 @@ ghost use Rattle.page_words.specs.Seat.{OnlyLooked};
 ghost use Rattle.weak_clearing.specs.Space.{IsSeatOf};
 ghost use Rattle.cross_thread_region.specs.Histories.{entries_of, slots_of, told_of_slot};
 ghost use Rattle.cross_thread_region.specs.Histories.{weak_place};
-ghost use Rattle.cross_thread_region.specs.Calls.{Continues, IsPassReady, PassView};
-ghost use Rattle.cross_thread_region.specs.Calls.{given_back, free_history};
+ghost use Rattle.cross_thread_region.specs.Calls.{after_turn};
 ghost use Rattle.cross_thread_region.specs.Pauses.{history_paused, dying_of};
 
 use crate::roots::SHARED;
@@ -22,30 +21,28 @@ use cross_thread_region::{HeldRegion, Pass, Region};
 use page_words::MutatorSeat;
 use weak_clearing::{Space, is_marked};
 
-/// Sets to null the weak slots of the region whose object is not marked, and gives the region its
-/// history back.
+/// Sets to null the weak slots of the region whose object is not marked, and ends the turn in which
+/// the pause holds its history.
 pub fn clear_region(
     space: &Space,
     seat: &mut MutatorSeat,
-    region: &mut Region,
+    region: &Region,
     pass: &mut Pass,
     held: HeldRegion,
 )
     requires heap { IsSeatOf space.now seat.old }
     requires off { seat.old.on ≡ false }
-    requires held { region.old.inside ≡ None }
-    requires found { Continues pass.old held }
+    requires lock { pass.old.lock ≡ region.now.lock }
     requires first { pass.old.number ≡ 0 }
-    requires places { (x p : ℕ) → weak_place held x ≡ Some p → IsPlace seat.old.bodies p }
-    ensures region { region.new ≡ given_back region.old
-        (history_paused pass.old held (dying_of (λ a. not (holds seat.old.marked a)) held)) }
-    ensures seen { pass.new ≡ record pass.old { seen = free_history region.new } }
-    ensures ready { IsPassReady region.new pass.new }
-    ensures others { (other : PassView) → Continues other held → other.number ≢ 0
-        → IsPassReady region.new other }
-    ensures legal { IsLegal (entries_of (free_history region.new)) }
-    ensures weak { NamesWeakSlots (dying_of (λ a. not (holds seat.old.marked a)) held)
-        (slots_of held) }
+    requires turn { pass.old.turn ≡ Some (held.ticket, held.history) }
+    requires places { (x p : ℕ) → weak_place held.history x ≡ Some p
+        → IsPlace seat.old.bodies p }
+    ensures pass { pass.new ≡ after_turn pass.old (history_paused held.history
+        (dying_of (λ a. not (holds seat.old.marked a)) held.history)) }
+    ensures legal { IsLegal (entries_of pass.new.seen) }
+    ensures weak { NamesWeakSlots
+        (dying_of (λ a. not (holds seat.old.marked a)) held.history)
+        (slots_of held.history) }
     ensures view { OnlyLooked seat.old seat.new }
     ensures looked { StartsWith seat.new.looked seat.old.looked }
 {
@@ -64,9 +61,10 @@ pub fn clear_region(
 fn dead_places(space: &Space, seat: &mut MutatorSeat, held: &HeldRegion) -> [u32; 32]
     requires heap { IsSeatOf space.now seat.old }
     requires off { seat.old.on ≡ false }
-    requires places { (x p : ℕ) → weak_place held.now x ≡ Some p → IsPlace seat.old.bodies p }
-    ensures dead { (x p : ℕ) → weak_place held.now x ≡ Some p → holds seat.old.marked p ≡ false
-        → Contains result (p + 1) }
+    requires places { (x p : ℕ) → weak_place held.now.history x ≡ Some p
+        → IsPlace seat.old.bodies p }
+    ensures dead { (x p : ℕ) → weak_place held.now.history x ≡ Some p
+        → holds seat.old.marked p ≡ false → Contains result (p + 1) }
     ensures only { (p : ℕ) → Contains result (p + 1) → holds seat.old.marked p ≡ false }
     ensures view { OnlyLooked seat.old seat.new }
     ensures looked { StartsWith seat.new.looked seat.old.looked }
@@ -82,9 +80,9 @@ fn dead_place(space: &Space, seat: &mut MutatorSeat, held: &HeldRegion, i: u32) 
     requires heap { IsSeatOf space.now seat.old }
     requires off { seat.old.on ≡ false }
     requires slot { i < 32 }
-    requires place { ForSome (weak_place held.now i) (IsPlace seat.old.bodies) }
+    requires place { ForSome (weak_place held.now.history i) (IsPlace seat.old.bodies) }
     ensures dead { result
-        ≡ told_of_slot (clear_slot (holds seat.old.marked) (weak_place held.now i)) }
+        ≡ told_of_slot (clear_slot (holds seat.old.marked) (weak_place held.now.history i)) }
     ensures view { OnlyLooked seat.old seat.new }
     ensures looked { StartsWith seat.new.looked seat.old.looked }
 {

@@ -74,15 +74,16 @@ pub fn visit_region(space: &Space, seat: &mut MutatorSeat, marking: &mut Marking
     requires on { seat.old.on ≡ true }
     requires marking { marking.old.on ≡ seat.old.on }
     requires alone { seat.old.lent ≡ 0 }
-    requires places { (x p : ℕ) → strong_place held.now x ≡ Some p → IsPlace seat.old.bodies p }
+    requires places { (x p : ℕ) → strong_place held.now.history x ≡ Some p
+        → IsPlace seat.old.bodies p }
     ensures marks { ListsMarks (with_may seat.old seat.new.may) marking.old
         seat.new marking.new }
-    ensures roots { (x p : ℕ) → strong_place held.now x ≡ Some p
+    ensures roots { (x p : ℕ) → strong_place held.now.history x ≡ Some p
         → holds seat.new.marked p ≡ true }
     ensures only { (p : ℕ) → holds seat.new.marked p ≡ true
-        → (holds seat.old.marked p ≡ true) ⊎ IsSharedPlace held.now p }
+        → (holds seat.old.marked p ≡ true) ⊎ IsSharedPlace held.now.history p }
     ensures noted { seat.new.noted ≡ seat.old.noted }
-    ensures looked { LooksOnlyAt (IsSharedPlace held.now) seat.old seat.new }
+    ensures looked { LooksOnlyAt (IsSharedPlace held.now.history) seat.old seat.new }
 {
     for i in 0..SHARED {
         if let Some(place) = held.strong(i) {

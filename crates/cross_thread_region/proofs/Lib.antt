@@ -3,6 +3,5 @@ mod Noted
 mod Filling
 mod Emptying
 mod Asked
-mod Passes
-mod Seen
+mod Turns
 mod Places

@@ -1,14 +1,14 @@
 -- What a pause makes of a region.
-use Rattle.std.specs.Prelude.{ℕ, Bool, false, List, [], ◌∷◌, ◌++◌, map, Option, Some, None}
+use Rattle.std.specs.Prelude.{ℕ, Bool, false, List, map, Option, Some, None}
 use Rattle.gc_graph.specs.declared.region.Op.TheVariants as O
 use Rattle.gc_graph.specs.Pause.{mask_of}
 use Rattle.cross_thread_region.specs.declared.chronicle.PlacedEntry.{PlacedEntry}
 use Rattle.cross_thread_region.specs.Histories.{weak_places}
-use Rattle.cross_thread_region.specs.Calls.{PassView, placed_entry_of}
+use Rattle.cross_thread_region.specs.Calls.{history_with_own}
 
 -- the history after a pause that cleared the slots for which this number stands
-abbrev pub history_paused : PassView → List PlacedEntry → ℕ → List PlacedEntry
-history_paused pass history cleared = history ++ placed_entry_of pass history (O.Pause cleared) 0 ∷ []
+abbrev pub history_paused : List PlacedEntry → ℕ → List PlacedEntry
+history_paused history cleared = history_with_own history (O.Pause cleared) 0
 
 -- whether a slot's place is one that the rule calls dead
 abbrev pub is_dying : (ℕ → Bool) → Option ℕ → Bool

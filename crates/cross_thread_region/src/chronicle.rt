@@ -27,6 +27,9 @@ use std::marker::Model;
 /// How many slots are kept, so many as the history's slots.
 const SLOTS: u32 = 32;
 
+/// More entries there never are, so that they can be counted in 32 bits.
+const MOST_ENTRIES: u64 = 0x4000_0000;
+
 /// An entry of the history. That of an export has the place that was given to the call.
 #[derive(Clone, Copy, Drop)]
 pub struct PlacedEntry {
@@ -59,6 +62,16 @@ impl Model for Chronicle {
         × AreNoted c.reads.items c.history.items (vec_capacity c.reads) };
 }
 
+impl region_lock::Chronicle for Chronicle {
+    type Entry = PlacedEntry;
+
+    ghost use Rattle.cross_thread_region.specs.Calls.{named};
+
+    ghost entries = { λ c. c.history };
+
+    ghost number = { named };
+}
+
 impl Chronicle {
     /// An empty history. Want of memory is free.
     pub fn new(alloc: Global) -> Result<Chronicle, NoMemory>
@@ -75,7 +88,8 @@ impl Chronicle {
 
     /// How many entries there are.
     pub fn len(&self) -> u64
-        ensures { result ≡ length self.now.history }
+        ensures count { result ≡ length self.now.history }
+        ensures few { length self.now.history ≤ 2 ^ 30 }
     {
         self.history.len() as u64
     }
@@ -150,6 +164,9 @@ impl Chronicle {
         ensures legal { IsLegal (entries_of self.new.history) }
     {
         // The second one is a pause's, which may come next.
+        if self.history.len() as u64 + 2 > MOST_ENTRIES {
+            return Reply::NoMemory;
+        }
         if self.history.reserve(2).is_err() || self.reads.reserve(2).is_err() {
             return Reply::NoMemory;
         }

@@ -1,41 +1,40 @@
 // The region: slots that threads share, and the history of what was done to them
 // (`include/cppgc/cross-thread-persistent.h`).
 
-ghost use Rattle.std.specs.Prelude.{◌≡◌, ◌≢◌, ◌+◌, ◌<◌, ◌≤◌, ◌^◌, ◌∷◌, Some};
-ghost use Rattle.std.specs.Prelude.{IfOk, IsSome, Contains, length, slice_get};
+ghost use Rattle.std.specs.Prelude.{◌≡◌, ◌≢◌, ◌+◌, ◌<◌, ◌≤◌, ◌^◌};
+ghost use Rattle.std.specs.Prelude.{IfOk, Contains, length, slice_get};
 ghost use Rattle.gc_graph.specs.declared.region.Op.TheVariants as O;
-ghost use Rattle.cross_thread_region.specs.Histories.{entries_of, place_told};
-ghost use Rattle.cross_thread_region.specs.WeakReads.{weak_read_at};
-ghost use Rattle.cross_thread_region.specs.Calls.{new_region, first_pass, free_history, AreByRight, IsPassReady, IsCallAnswered, StaysReady};
-ghost use Rattle.cross_thread_region.specs.Calls.{held_by_pause, split_off, pass_joined_with};
-ghost use Rattle.cross_thread_region.specs.Contents.{IsCallWithin};
 ghost use Rattle.gc_graph.specs.History.{IsLegal};
 ghost use Rattle.gc_graph.specs.Outcomes.{IsThreadOp};
+ghost use Rattle.region_lock.specs.Passes.{first_state, split_off, with_out, joined_with};
+ghost use Rattle.region_lock.specs.Rule.{BeginsOther};
+ghost use Rattle.cross_thread_region.specs.Histories.{entries_of, place_told};
+ghost use Rattle.cross_thread_region.specs.Calls.{Finds, IsPassReady, IsCallAnswered, named, seeing};
+ghost use Rattle.cross_thread_region.specs.Contents.{IsCallWithin, IsCounted, MayAdd};
 
 use crate::chronicle::Chronicle;
 use crate::pass::Pass;
 use gc_graph::{Entry, NoMemory, Op, Reply};
+use region_lock::{Held, RegionLock};
 use std::alloc::Global;
 use std::marker::Model;
+use std::sync::Wait;
 
-/// Slots, each null, strong or weak, with the history of the calls on them. Between `pause_begin`
-/// and `pause_end` the history is the pause's, and no other call can be made.
+/// Slots, each null, strong or weak, with the history of the calls on them behind a lock. Each call
+/// is one turn of the lock, for which it waits, and is made with the caller's own pass.
 #[derive(Drop)]
 pub struct Region {
-    slots: u32,
-    pub(crate) inside: Option<Chronicle>,
+    pub(crate) slots: u32,
+    pub(crate) lock: RegionLock<Chronicle>,
 }
 
 impl Model for Region {
-    ghost use Rattle.std.specs.Prelude.{◌≤◌, option_map};
+    ghost use Rattle.std.specs.Prelude.{◌≤◌};
     ghost use Rattle.cross_thread_region.specs.Calls.{RegionView};
 
     ghost Value = { RegionView };
 
-    ghost view = { λ r. record {
-      slots = r.slots;
-      inside = option_map (λ c. c.history) r.inside;
-    } };
+    ghost view = { λ r. record { slots = r.slots; lock = r.lock } };
 
     ghost invariant = { λ r. r.slots ≤ 32 };
 }
@@ -44,200 +43,197 @@ impl Region {
     /// So many slots, all null, and the first pass. Want of memory is free.
     pub fn new(alloc: Global, slots: u32) -> Result<(Region, Pass), NoMemory>
         requires { slots ≤ 32 }
-        ensures region { IfOk result (λ made. made.0 ≡ new_region slots) }
-        ensures pass { IfOk result (λ made. made.1 ≡ first_pass) }
-        ensures ready { IfOk result (λ made. IsPassReady made.0 made.1) }
+        ensures slots { IfOk result (λ made. made.0.slots ≡ slots) }
+        ensures pass { IfOk result (λ made. made.1 ≡ first_state made.0.lock) }
     {
         let chronicle = Chronicle::new(alloc)?;
-        let region = Region {
-            slots,
-            inside: Some(chronicle),
+        let (lock, first) = RegionLock::new(alloc, chronicle)?;
+        let pass = Pass {
+            number: 0,
+            count: 0,
+            lock: first,
         };
-        Ok((region, Pass::first()))
+        Ok((Region { slots, lock }, pass))
     }
 
     /// Slot `into` gets what slot `from` holds. Want of memory is free.
-    pub fn copy(&mut self, pass: &mut Pass, from: u32, into: u32) -> Reply
-        requires ready { IsPassReady self.old pass.old }
-        requires from { from < self.old.slots }
-        requires into { into < self.old.slots }
-        ensures call { IsCallAnswered self.old pass.old
-            (O.Copy from into) 0 result self.new pass.new }
-        ensures stays { StaysReady self.old pass.old self.new pass.new }
+    pub fn copy<R: Wait>(&self, rt: &R, pass: &mut Pass, from: u32, into: u32) -> Reply
+        requires ready { IsPassReady self.now pass.old }
+        requires from { from < self.now.slots }
+        requires into { into < self.now.slots }
+        ensures { IsCallAnswered pass.old (O.Copy from into) 0 result pass.new }
     {
-        self.enter(pass, Op::Copy { from, into }, 0)
+        self.enter(rt, pass, Op::Copy { from, into }, 0)
     }
 
     /// The slot becomes null. Want of memory is free.
-    pub fn clear(&mut self, pass: &mut Pass, slot: u32) -> Reply
-        requires ready { IsPassReady self.old pass.old }
-        requires slot { slot < self.old.slots }
-        ensures call { IsCallAnswered self.old pass.old (O.Clear slot) 0 result self.new pass.new }
-        ensures stays { StaysReady self.old pass.old self.new pass.new }
+    pub fn clear<R: Wait>(&self, rt: &R, pass: &mut Pass, slot: u32) -> Reply
+        requires ready { IsPassReady self.now pass.old }
+        requires slot { slot < self.now.slots }
+        ensures { IsCallAnswered pass.old (O.Clear slot) 0 result pass.new }
     {
-        self.enter(pass, Op::Clear { slot }, 0)
+        self.enter(rt, pass, Op::Clear { slot }, 0)
     }
 
     /// A strong slot becomes weak. Want of memory is free.
-    pub fn weaken(&mut self, pass: &mut Pass, slot: u32) -> Reply
-        requires ready { IsPassReady self.old pass.old }
-        requires slot { slot < self.old.slots }
-        ensures call { IsCallAnswered self.old pass.old (O.Weaken slot) 0 result self.new pass.new }
-        ensures stays { StaysReady self.old pass.old self.new pass.new }
+    pub fn weaken<R: Wait>(&self, rt: &R, pass: &mut Pass, slot: u32) -> Reply
+        requires ready { IsPassReady self.now pass.old }
+        requires slot { slot < self.now.slots }
+        ensures { IsCallAnswered pass.old (O.Weaken slot) 0 result pass.new }
     {
-        self.enter(pass, Op::Weaken { slot }, 0)
+        self.enter(rt, pass, Op::Weaken { slot }, 0)
     }
 
     /// Slot `into` becomes strong for what slot `from` names, or null. Want of memory is free.
-    pub fn upgrade(&mut self, pass: &mut Pass, from: u32, into: u32) -> Reply
-        requires ready { IsPassReady self.old pass.old }
-        requires from { from < self.old.slots }
-        requires into { into < self.old.slots }
-        ensures call { IsCallAnswered self.old pass.old (O.Upgrade from into) 0 result
-            self.new pass.new }
-        ensures stays { StaysReady self.old pass.old self.new pass.new }
+    pub fn upgrade<R: Wait>(&self, rt: &R, pass: &mut Pass, from: u32, into: u32) -> Reply
+        requires ready { IsPassReady self.now pass.old }
+        requires from { from < self.now.slots }
+        requires into { into < self.now.slots }
+        ensures { IsCallAnswered pass.old (O.Upgrade from into) 0 result pass.new }
     {
-        self.enter(pass, Op::Upgrade { from, into }, 0)
+        self.enter(rt, pass, Op::Upgrade { from, into }, 0)
     }
 
     /// The slot becomes strong for the node, which has this place. Want of memory is free.
-    pub fn export(&mut self, pass: &mut Pass, slot: u32, node: u32, place: u32) -> Reply
-        requires ready { IsPassReady self.old pass.old }
+    pub fn export<R: Wait>(
+        &self,
+        rt: &R,
+        pass: &mut Pass,
+        slot: u32,
+        node: u32,
+        place: u32,
+    ) -> Reply
+        requires ready { IsPassReady self.now pass.old }
         requires first { pass.old.number ≡ 0 }
-        requires slot { slot < self.old.slots }
+        requires slot { slot < self.now.slots }
         requires small { place + 1 < 2 ^ 32 }
-        ensures call { IsCallAnswered self.old pass.old (O.Export slot node) place result
-            self.new pass.new }
-        ensures stays { StaysReady self.old pass.old self.new pass.new }
+        ensures { IsCallAnswered pass.old (O.Export slot node) place result pass.new }
     {
-        self.enter(pass, Op::Export { slot, node }, place)
+        self.enter(rt, pass, Op::Export { slot, node }, place)
     }
 
     /// What the slot names, and its place. Want of memory is free.
-    pub fn import(&mut self, pass: &mut Pass, slot: u32) -> (Reply, u32)
-        requires ready { IsPassReady self.old pass.old }
+    pub fn import<R: Wait>(&self, rt: &R, pass: &mut Pass, slot: u32) -> (Reply, u32)
+        requires ready { IsPassReady self.now pass.old }
         requires first { pass.old.number ≡ 0 }
-        requires slot { slot < self.old.slots }
-        ensures call { IsCallAnswered self.old pass.old (O.Import slot) 0 result.0
-            self.new pass.new }
-        ensures stays { StaysReady self.old pass.old self.new pass.new }
-        ensures place { result.1 ≡ place_told result.0 (free_history self.new) slot }
+        requires slot { slot < self.now.slots }
+        ensures call { IsCallAnswered pass.old (O.Import slot) 0 result.0 pass.new }
+        ensures place { result.1 ≡ place_told result.0 pass.new.seen slot }
     {
-        let reply = self.enter(pass, Op::Import { slot }, 0);
+        let _few = self.slots;
+        let mut held = self.lock.take(rt, &mut pass.lock);
+        held.value.is_legal();
+        let reply = add(&mut held, pass.number, Op::Import { slot }, 0);
         let place = match reply {
-            Reply::Node(_) => self.inside().place(slot),
+            Reply::Node(_) => held.value.place(slot),
             _ => 0,
         };
+        held.value.is_legal();
+        pass.count = held.value.len();
+        self.lock.give(held, &mut pass.lock);
         (reply, place)
     }
 
-    /// How many entries the pass has seen.
+    /// How many entries the pass has seen. It takes no turn.
     pub fn entries(&self, pass: &mut Pass) -> u64
         ensures count { result ≡ length pass.old.seen }
         ensures pass { pass.new ≡ pass.old }
     {
-        pass.count()
+        pass.count
     }
 
-    /// Entry i of those that the pass has seen.
-    pub fn entry(&self, pass: &mut Pass, i: u64) -> Entry
+    /// Entry i of those that the pass had seen. It makes no entry.
+    pub fn entry<R: Wait>(&self, rt: &R, pass: &mut Pass, i: u64) -> Entry
         requires ready { IsPassReady self.now pass.old }
         requires seen { i < length pass.old.seen }
         ensures entry { slice_get (entries_of pass.old.seen) i ≡ Some result }
-        ensures pass { pass.new ≡ pass.old }
+        ensures found { Finds pass.old pass.new.seen }
+        ensures pass { pass.new ≡ seeing pass.old pass.new.seen }
     {
-        let _ = pass;
-        self.inside().entry(i)
-    }
-
-    /// The place that entry i read from a weak slot, of the entries that the pass has seen: none where
-    /// it read a null or a strong slot, or nothing.
-    pub fn read_place(&self, pass: &mut Pass, i: u64) -> Option<u32>
-        requires ready { IsPassReady self.now pass.old }
-        requires seen { i < length pass.old.seen }
-        ensures place { result ≡ weak_read_at pass.old.seen i }
-        ensures pass { pass.new ≡ pass.old }
-    {
-        let _ = pass;
-        self.inside().read_place(i)
-    }
-
-    /// The history is legal, and each entry of another number than 0 is an order of a thread. Whoever
-    /// calls this has the law.
-    pub fn is_legal(&self)
-        requires { IsSome self.now.inside }
-        ensures legal { IsLegal (entries_of (free_history self.now)) }
-        ensures right { AreByRight (free_history self.now) }
-    {
-        self.inside().is_legal();
+        let held = self.lock.take(rt, &mut pass.lock);
+        held.value.is_legal();
+        pass.count = held.value.len();
+        let entry = held.value.entry(i);
+        self.lock.give(held, &mut pass.lock);
+        entry
     }
 
     /// A pass with this number, which has seen what the first one has.
     pub fn split_pass(&self, pass: &mut Pass, number: u32) -> Pass
-        requires ready { IsPassReady self.now pass.old }
+        requires lock { pass.old.lock ≡ self.now.lock }
         requires first { pass.old.number ≡ 0 }
         requires above { 0 < number }
         requires below { number ≤ 8 }
         requires new { Contains pass.old.out number → ⊥ }
         ensures other { result ≡ split_off pass.old number }
-        ensures out { pass.new ≡ record pass.old { out = number ∷ pass.old.out } }
-        ensures ready { IsPassReady self.now pass.new }
-        ensures other_ready { IsPassReady self.now result }
+        ensures out { pass.new ≡ with_out pass.old number }
     {
-        pass.split(number)
+        let lock = self.lock.split_pass(&mut pass.lock, number);
+        Pass {
+            number,
+            count: pass.count,
+            lock,
+        }
     }
 
     /// The first pass has seen what the other one has too, whose number is no longer out.
     pub fn join_pass(&self, pass: &mut Pass, other: Pass)
-        requires ready { IsPassReady self.now pass.old }
+        requires lock { pass.old.lock ≡ self.now.lock }
         requires first { pass.old.number ≡ 0 }
-        requires other { IsPassReady self.now other }
-        requires out { Contains pass.old.out other.number }
-        ensures joined { pass.new ≡ pass_joined_with pass.old other }
-        ensures ready { IsPassReady self.now pass.new }
+        requires ready { IsPassReady self.now other }
+        requires later { other.number ≢ 0 }
+        ensures joined { pass.new ≡ joined_with pass.old other }
+        ensures seen { BeginsOther named other.number pass.old.seen other.seen pass.old.out }
     {
-        pass.join(other);
-    }
-
-    pub(crate) fn inside(&self) -> &Chronicle
-        requires { IsSome self.now.inside }
-        ensures history { result.now.history ≡ free_history self.now }
-        ensures few { self.now.slots ≤ 32 }
-    {
-        match &self.inside {
-            Some(chronicle) => chronicle,
-            None => unreachable!(),
-        }
-    }
-
-    pub(crate) fn take(&mut self) -> Chronicle
-        requires { IsSome self.old.inside }
-        ensures chronicle { result.history ≡ free_history self.old }
-        ensures region { self.new ≡ held_by_pause self.old }
-        ensures few { self.old.slots ≤ 32 }
-    {
-        match self.inside.take() {
-            Some(chronicle) => chronicle,
-            None => unreachable!(),
+        let Pass {
+            number: _,
+            count,
+            lock,
+        } = other;
+        self.lock.join_pass(&mut pass.lock, lock);
+        if pass.count < count {
+            pass.count = count;
         }
     }
 
     /// Makes the entry of a call. Want of memory is free.
-    pub(crate) fn enter(&mut self, pass: &mut Pass, op: Op, place: u32) -> Reply
-        requires ready { IsPassReady self.old pass.old }
-        requires within { IsCallWithin self.old.slots op }
+    fn enter<R: Wait>(&self, rt: &R, pass: &mut Pass, op: Op, place: u32) -> Reply
+        requires ready { IsPassReady self.now pass.old }
+        requires within { IsCallWithin self.now.slots op }
         requires right { pass.old.number ≢ 0 → IsThreadOp op }
         requires small { place + 1 < 2 ^ 32 }
-        ensures call { IsCallAnswered self.old pass.old op place result self.new pass.new }
-        ensures stays { StaysReady self.old pass.old self.new pass.new }
+        ensures { IsCallAnswered pass.old op place result pass.new }
     {
-        let mut chronicle = self.take();
-        let reply = chronicle.add(pass.number(), op, place);
+        let _few = self.slots;
+        let mut held = self.lock.take(rt, &mut pass.lock);
+        held.value.is_legal();
+        let reply = held.value.add(pass.number, op, place);
         match reply {
             Reply::NoMemory => {}
-            _ => pass.see(&chronicle),
+            _ => held.added(),
         }
-        self.inside = Some(chronicle);
+        held.value.is_legal();
+        pass.count = held.value.len();
+        self.lock.give(held, &mut pass.lock);
         reply
     }
+}
+
+/// Makes an entry that is no pause's, in a turn of the lock. Want of memory is free.
+pub(crate) fn add(held: &mut Held<Chronicle>, number: u32, op: Op, place: u32) -> Reply
+    requires within { IsCallWithin 32 op }
+    requires right { number ≢ 0 → IsThreadOp op }
+    requires small { place + 1 < 2 ^ 32 }
+    requires counted { IsCounted held.old }
+    ensures added { MayAdd held.old.value number op place result held.new.value }
+    ensures legal { IsLegal (entries_of held.new.value.history) }
+    ensures ticket { held.new.ticket ≡ held.old.ticket }
+    ensures counted { IsCounted held.new }
+{
+    let reply = held.value.add(number, op, place);
+    match reply {
+        Reply::NoMemory => {}
+        _ => held.added(),
+    }
+    reply
 }

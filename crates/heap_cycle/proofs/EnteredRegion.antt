@@ -10,7 +10,7 @@ use Rattle.gc_graph.specs.Outcomes.{IsThreadOp}
 use Rattle.gc_graph.specs.State.{Node}
 use Rattle.gc_graph.specs.Valid.{AreLive, region_targets}
 use Rattle.cross_thread_region.specs.declared.chronicle.PlacedEntry.{PlacedEntry}
-use Rattle.cross_thread_region.specs.Calls.{first_pass, placed_entry_of}
+use Rattle.cross_thread_region.specs.Calls.{placed_entry_of}
 use Rattle.cross_thread_region.specs.Histories.{entries_of, is_started, slots_of, IsPlacedBy}
 use Rattle.cross_thread_region.specs.NextEntries.{started_next}
 use Rattle.cross_thread_region.specs.OrdersStay.{placed_after, started_on}
@@ -36,15 +36,13 @@ module _ (op : Op) (place : ℕ) (old new : OwnedView) (is : HasEntered op place
   pub grown : TakesMore old new
   grown = record {
     begins = ap (take (length old.taken)) (goes_on op place old new is).taken ∙ begins_on old.taken _;
-    room = is.room;
-    told = λ none. ap (λ (v : OwnedView). v.told) is.rest;
     rest = (goes_on op place old new is).rest;
   }
 
   -- orders start no collection and end none, and so the entry alone may
   pub started_entered : is_started new.taken ≡ started_after (is_started old.taken) op
   started_entered =
-      ap is_started is.taken ∙ started_next found (placed_entry_of first_pass found op place)
+      ap is_started is.taken ∙ started_next found (placed_entry_of 0 found op place)
       ∙ ap (λ started. started_after started op) (started_on old.taken is.others (thread_ops old.running is.others is.found.orders))
 
   -- the slots have the places of their nodes
@@ -52,5 +50,5 @@ module _ (op : Op) (place : ℕ) (old new : OwnedView) (is : HasEntered op place
       → ((x n : ℕ) → op ≡ O.Export x n → place ≡ place_of nodes n) → IsPlacedBy (place_of nodes) new.taken
   placed_entered nodes live placed exported =
       subst (IsPlacedBy (place_of nodes)) (sym is.taken)
-      (placed_next (place_of nodes) found (placed_entry_of first_pass found op place)
+      (placed_next (place_of nodes) found (placed_entry_of 0 found op place)
       (placed_after nodes (place_of nodes) old.taken is.others live placed (thread_ops old.running is.others is.found.orders)) exported)

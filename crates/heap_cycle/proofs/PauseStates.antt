@@ -71,7 +71,6 @@ pub record Pauses (markers : ℕ) (want : Want) (s : Parts) (new : ObjectsView) 
   pub marking : s.cycle.phase ≡ Marking
   pub region : HasRegion s
   pub entry : HasPauseEntry new.nodes s.region r
-  pub room : r.room ≡ s.region.room
   pub allowed : is_stack_refused want s.handles.stack.words ≡ false
   pub setup : setup_of_objects new ≡ setup_of s
   pub paused : IsPaused s.objects.callbacks

@@ -220,7 +220,6 @@ module _ (markers : ℕ) (want : Want) (s : Parts) (new : ObjectsView) (left : H
           made = omega (arith, is.ready.tied.made, ordinal, is.paused.stayed.count, length-after set old);
         };
         grown = grown (O.Pause (dying_slots new.nodes (slots_of (found_of r)))) 0 s.region r is.entry.entry;
-        room = is.room;
         region = region_left;
         walked = is.walked;
       }

@@ -5,7 +5,6 @@ use Rattle.std.proofs.Math.Seq.{take-append_seam}
 use Rattle.std.proofs.lemmas.List.{append_assoc, drop_at, drop-append-le, length-append, map-append, take-append-drop}
 use Rattle.std.proofs.lemmas.List.Elements.{All-head, All-tail}
 use Rattle.gc_graph.specs.declared.region.Entry.{Entry}
-use Rattle.gc_graph.specs.declared.line.Line.{Line}
 use Rattle.gc_graph.specs.declared.region.Op.{Op}
 use Rattle.gc_graph.specs.declared.region.Op.TheVariants as O
 use Rattle.gc_graph.specs.History.{replayed, reply_of, started_after, started_through}
@@ -13,7 +12,7 @@ use Rattle.gc_graph.specs.Outcomes.{AreOthers, IsThreadOp, owner_entry, took}
 use Rattle.gc_graph.specs.State.{State, RegionSlot}
 use Rattle.callback_table.specs.Registry.{registrations_of}
 use Rattle.cross_thread_region.specs.declared.chronicle.PlacedEntry.{PlacedEntry}
-use Rattle.cross_thread_region.specs.Calls.{Begins, first_pass, placed_entry_of}
+use Rattle.cross_thread_region.specs.Calls.{Begins, placed_entry_of}
 use Rattle.cross_thread_region.specs.Histories.{entries_of, slots_of}
 use Rattle.cross_thread_region.specs.OrdersStay.{slots_on}
 use Rattle.heap_roots.specs.Calls.{HasEntered, TakesMore}
@@ -43,10 +42,10 @@ begun_by xs zs begins = sym (take-append-drop (length xs) zs) ∙ ap (λ l. l ++
 
 -- ---- a piece more
 
--- the owner took this piece of the history, and besides it at most made room and told no more what a join had told
+-- the owner took this piece of the history, and changed nothing else
 pub record GoesOn (old : OwnedView) (xs : List PlacedEntry) (new : OwnedView) : Type 0 where
   pub taken : new.taken ≡ old.taken ++ xs
-  pub rest : new ≡ record old { taken = new.taken; room = new.room; told = new.told }
+  pub rest : new ≡ record old { taken = new.taken }
 
 module _ (old new : OwnedView) (xs : List PlacedEntry) (is : GoesOn old xs new) where
   pub piece_is : piece_of old new ≡ entries_of xs
@@ -80,14 +79,12 @@ module _ (old new : OwnedView) (xs : List PlacedEntry) (is : GoesOn old xs new) 
 
 module _ (op : Op) (place : ℕ) (old new : OwnedView) (is : HasEntered op place old new) where
   abbrev pub own : PlacedEntry
-  own = placed_entry_of first_pass (old.taken ++ is.others) op place
+  own = placed_entry_of 0 (old.taken ++ is.others) op place
 
   pub goes_on : GoesOn old (is.others ++ own ∷ []) new
   goes_on = record {
     taken = is.taken ∙ append_assoc old.taken is.others (own ∷ []);
-    rest =
-        is.rest
-        ∙ ap (λ (ls : List Line). record old { taken = new.taken; room = new.room; told = ls }) (sym (ap (λ (v : OwnedView). v.told) is.rest));
+    rest = is.rest;
   }
 
   pub own_entry : (s : State) → s.region ≡ slots_of old.taken → own.entry ≡ owner_entry (took s (entries_of is.others)) op
@@ -122,13 +119,11 @@ piece_both a b c first second =
     ∙ ap entries_of (drop_at a.taken (drop (length a.taken) b.taken ++ drop (length b.taken) c.taken) (length a.taken) refl)
     ∙ map-append (λ (p : PlacedEntry). p.entry) (drop (length a.taken) b.taken) (drop (length b.taken) c.taken)
 
--- and room was made by the first alone
-pub takes_both : (a b c : OwnedView) → TakesMore a b → TakesMore b c → c.room ≡ b.room → TakesMore a c
-takes_both a b c first second room = record {
+-- and both changed nothing else
+pub takes_both : (a b c : OwnedView) → TakesMore a b → TakesMore b c → TakesMore a c
+takes_both a b c first second = record {
   begins = ap (take (length a.taken)) (behind_both a.taken b.taken c.taken first.begins second.begins) ∙ begins_on a.taken _;
-  room = omega (arith, first.room, room);
-  told = λ none. second.told (first.told none);
-  rest = second.rest ∙ ap (λ (v : OwnedView). record v { taken = c.taken; room = c.room; told = c.told }) first.rest;
+  rest = second.rest ∙ ap (λ (v : OwnedView). record v { taken = c.taken }) first.rest;
 }
 
 -- ---- entries of threads

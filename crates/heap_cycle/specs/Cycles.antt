@@ -90,6 +90,5 @@ pub record HasPaused (markers : ℕ) (want : Want) (old new : Parts) (result : F
   pub ordinal : new.cycle.rest.ordinal ≡ old.cycle.rest.ordinal
   pub tied : AreTied new
   pub grown : TakesMore old.region new.region
-  pub room : new.region.room ≡ old.region.room
   pub region : HasRegion new
   pub walked : IsToldTruly old.objects.grey.since (refused_of new.objects) result.pause.walked

@@ -18,12 +18,18 @@ use crate::parts::Parts;
 use crate::states;
 use crate::sweeps::end_sweep;
 use gc_graph::NoMemory;
+use std::sync::Wait;
 
 /// Begins a cycle: takes room for marking, makes the start entry behind what threads have done, ends
 /// an open sweep, and then marking begins. Want of memory is free.
-pub(crate) fn begin(parts: &mut Parts, finalised: &mut Vec<u32>) -> Result<(), NoMemory>
+pub(crate) fn begin<R: Wait>(
+    rt: &R,
+    parts: &mut Parts,
+    finalised: &mut Vec<u32>,
+) -> Result<(), NoMemory>
     requires ready { IsReady parts.old }
     requires region { HasRegion parts.old }
+    requires quiet { parts.old.region.told ≡ [] }
     requires calm { is_marking parts.old.cycle.phase ≡ false }
     requires empty { finalised.old.items ≡ [] }
     requires room { word_count parts.old.objects.shape ≤ 2 * vec_capacity finalised.old }
@@ -40,7 +46,7 @@ pub(crate) fn begin(parts: &mut Parts, finalised: &mut Vec<u32>) -> Result<(), N
     parts.objects.reserve()?;
     let mut told = [0; 32];
     // Once the start entry is made nothing can be refused.
-    parts.region.start(&mut parts.objects, &mut told)?;
+    parts.region.start(rt, &mut parts.objects, &mut told)?;
     end_sweep(parts, finalised);
     mark_roots(parts, &told);
     Ok(())

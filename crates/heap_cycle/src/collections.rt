@@ -25,14 +25,14 @@ use crate::states;
 use callback_table::CallbackTable;
 use gc_graph::{Line, Phase, Refusal, Want};
 use heap_roots::{Finished, Gate};
-use std::sync::Arc;
+use std::sync::{Arc, Wait};
 use std::thread::Threads;
 
 /// The start of a cycle, which is refused while marking goes on: an open sweep is ended, marking
 /// begins, and the heap's markers are started. What the strong slots name, those of the region too,
 /// is marked then. Want of memory is free.
 #[inline(never)]
-pub fn start<R: Threads, G: Gate + Send + Sync + 'static>(
+pub fn start<R: Threads + Wait, G: Gate + Send + Sync + 'static>(
     rt: &R,
     parts: &mut Parts,
     outcome: &mut Outcome,
@@ -40,6 +40,7 @@ pub fn start<R: Threads, G: Gate + Send + Sync + 'static>(
 ) -> Line
     requires ready { IsReady parts.old }
     requires region { HasRegion parts.old }
+    requires quiet { parts.old.region.told ≡ [] }
     requires numbers { outcome.old.numbers ≡ [] }
     requires calm { outcome.old.prefinalises ≡ false }
     requires room { word_count parts.old.objects.shape ≤ 2 * outcome.old.room }
@@ -60,7 +61,7 @@ pub fn start<R: Threads, G: Gate + Send + Sync + 'static>(
     let Ok(lists) = parts.objects.crew_lists() else {
         return Line::Memory;
     };
-    let Ok(()) = begin(parts, &mut outcome.finalised) else {
+    let Ok(()) = begin(rt, parts, &mut outcome.finalised) else {
         return Line::Memory;
     };
     man(rt, parts, lists, gate);
@@ -94,7 +95,7 @@ pub fn step(parts: &mut Parts, n: u32) -> Line
 /// The pause of a cycle, which is refused where none is open, and where the pause would be precise
 /// and the stack isn't empty. Markers that run are stopped and joined first.
 #[inline(never)]
-pub fn finish<R: Threads>(
+pub fn finish<R: Threads + Wait>(
     rt: &R,
     parts: &mut Parts,
     outcome: &mut Outcome,
@@ -103,6 +104,7 @@ pub fn finish<R: Threads>(
 ) -> Line
     requires ready { IsReady parts.old }
     requires region { HasRegion parts.old }
+    requires quiet { parts.old.region.told ≡ [] }
     requires kinds { callback_kinds callbacks.now ≡ parts.old.objects.callbacks }
     requires numbers { outcome.old.numbers ≡ [] }
     requires calm { outcome.old.prefinalises ≡ false }
@@ -130,7 +132,7 @@ pub fn finish<R: Threads>(
 /// and the stack isn't empty: an open sweep is ended, marking begins, and the pause ends it. No
 /// marker is started.
 #[inline(never)]
-pub fn collect<R: Threads>(
+pub fn collect<R: Threads + Wait>(
     rt: &R,
     parts: &mut Parts,
     outcome: &mut Outcome,
@@ -139,6 +141,7 @@ pub fn collect<R: Threads>(
 ) -> Line
     requires ready { IsReady parts.old }
     requires region { HasRegion parts.old }
+    requires quiet { parts.old.region.told ≡ [] }
     requires kinds { callback_kinds callbacks.now ≡ parts.old.objects.callbacks }
     requires numbers { outcome.old.numbers ≡ [] }
     requires calm { outcome.old.prefinalises ≡ false }
@@ -159,7 +162,7 @@ pub fn collect<R: Threads>(
     if parts.handles.stack().refuses(want) {
         return Line::Refused(Refusal::Stack);
     }
-    let Ok(()) = begin(parts, &mut outcome.finalised) else {
+    let Ok(()) = begin(rt, parts, &mut outcome.finalised) else {
         return Line::Memory;
     };
     let result = pause(rt, parts, callbacks, want);
@@ -168,9 +171,15 @@ pub fn collect<R: Threads>(
 }
 
 /// The pause ends marking: what is not kept is condemned, and a sweep is open.
-fn pause<R: Threads>(rt: &R, parts: &mut Parts, callbacks: &CallbackTable, want: Want) -> Finished
+fn pause<R: Threads + Wait>(
+    rt: &R,
+    parts: &mut Parts,
+    callbacks: &CallbackTable,
+    want: Want,
+) -> Finished
     requires ready { IsReady parts.old }
     requires region { HasRegion parts.old }
+    requires quiet { parts.old.region.told ≡ [] }
     requires marking { parts.old.cycle.phase ≡ Marking }
     requires allowed { is_stack_refused want parts.old.handles.stack.words ≡ false }
     requires kinds { callback_kinds callbacks.now ≡ parts.old.objects.callbacks }

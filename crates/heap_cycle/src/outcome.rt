@@ -80,9 +80,11 @@ impl Outcome {
         self.last = Some(line);
     }
 
-    /// How many lines there are, where the last pause ran these prefinalizers.
+    /// How many lines there are, once the last one ended it, where the last pause ran these
+    /// prefinalizers.
     pub fn count(&self, ran: &[(u32, u32)]) -> u32
-        requires { length ran.now ≤ 16000000 }
+        requires ended { self.now.last ≡ None → ⊥ }
+        requires few { length ran.now ≤ 16000000 }
         ensures { result ≡ length (outcome_lines self.now ran.now) }
     {
         let prefinalised = if self.prefinalises {
@@ -90,7 +92,7 @@ impl Outcome {
         } else {
             0
         };
-        self.finalised.len() as u32 + u32::from(self.last.is_some()) + prefinalised
+        self.finalised.len() as u32 + 1 + prefinalised
     }
 
     /// The line of the outcome, where it has one alone, unless that tells a finalised node or a

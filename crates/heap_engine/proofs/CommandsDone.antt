@@ -115,11 +115,10 @@ none_in lines P none = subst (All P) (sym none) (All-nil P)
 pub leaves_more : (command : Command) (s new : Parts) (o begun : Printed) → is_of_threads command ≡ false → IsAsked s begun → HasRegion new → TakesMore s.region new.region
     → LeavesRegion command s new o
 leaves_more command s new o begun other asked region more =
-    let told : new.region.told ≡ [] = more.told asked.quiet in
+    let told : new.region.told ≡ [] = ap (λ (v : OwnedView). v.told) more.rest ∙ asked.quiet in
     record {
       region = region;
       begins = more.begins;
-      room = more.room;
       none_out = λ still. ap (λ (v : OwnedView). v.out) more.rest ∙ asked.none_out (sym (ap (λ (v : OwnedView). v.awaiting) more.rest) ∙ still);
       handed = still_handed command (state_of s) s.region new.region other (ap (λ (v : OwnedView). v.totals) more.rest) (ap (λ (v : OwnedView). v.awaiting) more.rest);
       replies = none_in new.region.told IsToldLine told;
@@ -130,7 +129,7 @@ leaves_more command s new o begun other asked region more =
 
 -- a region that is as it was takes nothing
 pub takes_none : (old new : OwnedView) → new ≡ old → TakesMore old new
-takes_none old new same = subst (TakesMore old) (sym same) (record { begins = take-length old.taken; room = omega arith; told = λ none. none; rest = refl })
+takes_none old new same = subst (TakesMore old) (sym same) (record { begins = take-length old.taken; rest = refl })
 
 -- a command that leaves the region alone was carried out
 pub alone_done : (command : Command) (s new : Parts) (begun o : Printed) → StepsFollow → NodesStayPut → 0 < s.objects.shape.pages
@@ -157,7 +156,7 @@ pub taking_done : (command : Command) (s new : Parts) (begun before o : Printed)
     → Step (setup_of s) (state_of s) command (piece_of s.region new.region) lines (answered (state_of new)) → IsFrame s (counted new) line → TellsThoseThatRan before new.cycle.ran
     → before.room ≡ begun.room → (command ≡ C.GcStart → line ≡ L.Started → AreSlotsMarked new new.region.taken) → IsCarriedOut command s new begun o
 taking_done command s new begun before o line lines is told other no_step asked region more step frame ran room marked =
-    let quiet : new.region.told ≡ [] = more.told asked.quiet in
+    let quiet : new.region.told ≡ [] = ap (λ (v : OwnedView). v.told) more.rest ∙ asked.quiet in
     record {
       ended = line_ends before o line is;
       step = rw (quiet, is, told) step;

@@ -14,7 +14,7 @@ use Rattle.gc_graph.specs.RegionSteps.{TakesOwn}
 use Rattle.gc_graph.specs.Replays.{legal-append}
 use Rattle.gc_graph.specs.State.{State, RegionSlot}
 use Rattle.cross_thread_region.specs.declared.chronicle.PlacedEntry.{PlacedEntry}
-use Rattle.cross_thread_region.specs.Calls.{first_pass, placed_entry_of}
+use Rattle.cross_thread_region.specs.Calls.{placed_entry_of}
 use Rattle.cross_thread_region.specs.Histories.{entries_of, is_started, slots_of, IsPlacedBy}
 use Rattle.cross_thread_region.specs.NextEntries.{started_next}
 use Rattle.cross_thread_region.specs.OrdersStay.{placed_after, slots_on, started_on}
@@ -57,8 +57,8 @@ module _ (s : Parts) (o : ObjectsView) (r : OwnedView) (more : List PlacedEntry)
   pub piece_taken : piece_of s.region r ≡ entries_of more
   piece_taken = ap (λ l. entries_of (drop (length s.region.taken) l)) is ∙ ap entries_of (drop_at s.region.taken more (length s.region.taken) refl)
 
-  -- the state took it, where only what was taken, the room and what is told are others
-  pub state_taken : r ≡ record s.region { taken = r.taken; room = r.room; told = r.told } → state_of (taken_parts s o r) ≡ took (state_of s) (piece_of s.region r)
+  -- the state took it, where nothing else is other
+  pub state_taken : r ≡ record s.region { taken = r.taken } → state_of (taken_parts s o r) ≡ took (state_of s) (piece_of s.region r)
   state_taken rest =
       let piece : List Entry = piece_of s.region r in
       let may : List Bool = (took (state_of s) piece).may in
@@ -122,7 +122,7 @@ module _ (op : Op) (place : ℕ) (s : Parts) (o : ObjectsView) (r : OwnedView) (
   found_history = s.region.taken ++ entered.others
 
   abbrev own : PlacedEntry
-  own = placed_entry_of first_pass found_history op place
+  own = placed_entry_of 0 found_history op place
 
   longer : r.taken ≡ s.region.taken ++ (entered.others ++ own ∷ [])
   longer = entered.taken ∙ append_assoc s.region.taken entered.others (own ∷ [])
@@ -151,15 +151,10 @@ module _ (op : Op) (place : ℕ) (s : Parts) (o : ObjectsView) (r : OwnedView) (
       (legal-append (slots_of s.region.taken) (is_marking s.cycle.phase) es (owner_entry (took (state_of s) es) op ∷ []) began
       (ap (λ region. reply_of region op) (ap (λ (t : State). t.region) (took_is (state_of s) es)), may _ _, tt))
 
-  same_rest : r ≡ record s.region { taken = r.taken; room = r.room; told = r.told }
-  same_rest = entered.rest ∙ ap (λ ls. record s.region { taken = r.taken; room = r.room; told = ls }) (sym (ap (λ (v : OwnedView). v.told) entered.rest))
-
   pub takes_more : TakesMore s.region r
   takes_more = record {
     begins = ap (take (length s.region.taken)) longer ∙ take-append_seam s.region.taken (entered.others ++ own ∷ []);
-    room = entered.room;
-    told = λ none. ap (λ (v : OwnedView). v.told) entered.rest;
-    rest = same_rest;
+    rest = entered.rest;
   }
 
   pub has_taken : ((region : List RegionSlot) (started : Bool) → MayPause region started op) → ((started : Bool) → started_after started op ≡ started)
@@ -167,7 +162,7 @@ module _ (op : Op) (place : ℕ) (s : Parts) (o : ObjectsView) (r : OwnedView) (
   has_taken may calm given = record {
     before = es;
     takes = record { others = entered.found.orders; piece_is = piece_is; legal = legal_now may };
-    state = state_taken s o r (entered.others ++ own ∷ []) longer entered.found.told looked same_rest;
+    state = state_taken s o r (entered.others ++ own ∷ []) longer entered.found.told looked entered.rest;
     grown = takes_more;
     region = record {
       opened = ap (λ (v : OwnedView). v.closed) entered.rest ∙ region.opened;

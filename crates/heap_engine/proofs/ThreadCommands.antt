@@ -1,5 +1,5 @@
 -- A join of threads is a step, and leaves the region to the parts.
-use Rattle.std.proofs.Common.{◌≡◌, ℕ, false, All, List, [], ◌∷◌, ◌++◌, length, drop, take, map, Some, cond, eqb, inr, refl, sym, ap, ◌∙◌, subst, arith}
+use Rattle.std.proofs.Common.{◌≡◌, ℕ, false, All, List, [], ◌∷◌, ◌++◌, length, drop, take, map, Some, cond, eqb, inr, refl, sym, ap, ◌∙◌, subst}
 use Rattle.std.proofs.Math.Seq.{drop-length, take-append_seam}
 use Rattle.std.specs.List.{flat_map, list_any, range_with_len}
 use Rattle.std.proofs.lemmas.Bool.{true≢false}
@@ -113,7 +113,6 @@ module _ (s : Parts) (begun o : Printed) (objects : ObjectsView) (r : OwnedView)
         region = record {
           region = new_region;
           begins = ap (take (length s.region.taken)) is.taken ∙ take-append_seam s.region.taken is.others;
-          room = omega (arith, ap (λ (v : OwnedView). v.room) is.rest);
           none_out = λ awaits. ap (λ (v : OwnedView). v.out) is.rest;
           handed = (ap (λ (v : OwnedView). v.totals) is.rest, λ awaits. absurd (true≢false (sym awaits ∙ ap (λ (v : OwnedView). v.awaiting) is.rest)));
           replies = subst (All IsToldLine) (sym is.told) (all_told is.answers s.region.running (untold_of still));

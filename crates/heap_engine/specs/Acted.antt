@@ -7,7 +7,6 @@ use Rattle.gc_graph.specs.declared.phase.Phase.TheVariants.{Marking}
 use Rattle.gc_graph.specs.Graph.{IsWithin}
 use Rattle.gc_graph.specs.Lawful.{TotalsNeverFall}
 use Rattle.gc_graph.specs.Reach.{HoldsAll}
-use Rattle.gc_graph.specs.RegionSteps.{HasDoneFirst}
 use Rattle.gc_graph.specs.State.{slot_targets, strong_region_targets}
 use Rattle.gc_graph.specs.Step.{Step}
 use Rattle.heap_cycle.specs.Pages.{word_count}
@@ -30,19 +29,17 @@ IsDealtWith items words p =
     Contains items.claimed p ⊎ (Contains items.found p ⊎ (Contains items.notes (note_of p 0) × (Contains items.missed p ⊎ (words ≤ p))))
 
 -- the command is a step to the new state, which takes this piece of the region's history and tells these lines, so many; one command
--- more is counted, the piece follows the history, and the heap isn't closed; no pass is out where no join is awaited; what was taken of a
--- thread's entries are those of the first of its orders; each totals that a join tells are those of one state since the threads went, and
--- those of one thread never get older; a pause line tells truly whether the heap was walked; where a cycle was started, what the strong
--- slots name is marked, those of the region among them; while marking goes on a seat is lent for each of the heap's markers, and each
--- item that the owner took beside them is dealt with unless a note was refused; a step keeps those that were taken before, and tells
--- truly that it is done
+-- more is counted, the piece follows the history, and the heap isn't closed; no pass is out where no join is awaited; each totals that a
+-- join tells are those of one state since the threads went, and those of one thread never get older; a pause line tells truly whether
+-- the heap was walked; where a cycle was started, what the strong slots name is marked, those of the region among them; while marking
+-- goes on a seat is lent for each of the heap's markers, and each item that the owner took beside them is dealt with unless a note was
+-- refused; a step keeps those that were taken before, and tells truly that it is done
 pub record IsActed (old new : View) (command : Command) (lines : ℕ) : Type 0 where
   pub step : Step old.setup old.state command new.piece new.lines new.state
   pub count : lines ≡ length new.lines
   pub ordinal : new.state.ordinal ≡ old.state.ordinal + 1
   pub history : new.history ≡ old.history ++ new.piece
   pub out : new.state.awaiting ≡ false → new.out ≡ []
-  pub unjoined : (j : ℕ) → Contains new.state.running j → HasDoneFirst new.state new.state.unprinted j
   pub since : new.since ≡ since_after command old.state old.since
   pub totals : command ≡ C.ThreadsJoin → TellOneOf new.since new.lines
   pub fall : command ≡ C.ThreadsJoin → TotalsNeverFall new.lines

@@ -1,5 +1,5 @@
 -- What is owed of a command, between the parts of a heap before it and after it, and the outcome that it ended.
-use Rattle.std.specs.Prelude.{◌≡◌, ◌⊎◌, ℕ, ◌+◌, ◌*◌, ◌≤◌, ◌<◌, ◌++◌, Bool, true, false, [], length, All, Contains, Some}
+use Rattle.std.specs.Prelude.{◌≡◌, ◌⊎◌, ℕ, ◌*◌, ◌≤◌, ◌<◌, ◌++◌, Bool, true, false, [], length, All, Contains, Some}
 use Rattle.gc_graph.specs.declared.command.Command.{Command}
 use Rattle.gc_graph.specs.declared.command.Command.TheVariants as C
 use Rattle.gc_graph.specs.declared.line.Line.TheVariants as L
@@ -74,13 +74,12 @@ abbrev pub HandsTotals : Command → State → OwnedView → OwnedView → Type 
 HandsTotals C.ThreadsGo s old new = AreTotalsOf s new.totals
 HandsTotals _ s old new = (new.totals ≡ old.totals) × (new.awaiting ≡ true → old.awaiting ≡ true)
 
--- what a command leaves of the region: it belongs to the parts, what was taken of the history begins what is taken now, with room for
--- two entries more at most; no pass is out unless a join is awaited; and where lines are told before the last one, they are replies and
--- entries of a join, and their totals are those that threads were handed; a join ends the outcome as one
+-- what a command leaves of the region: it belongs to the parts, and what was taken of the history begins what is taken now; no pass is
+-- out unless a join is awaited; and where lines are told before the last one, they are replies and entries of a join, and their totals
+-- are those that threads were handed; a join ends the outcome as one
 pub record LeavesRegion (command : Command) (old new : Parts) (o : Printed) : Type 0 where
   pub region : HasRegion new
   pub begins : Begins old.region.taken new.region.taken
-  pub room : new.region.room ≤ old.region.room + 2
   pub none_out : new.region.awaiting ≡ false → new.region.out ≡ []
   pub handed : HandsTotals command (state_of old) old.region new.region
   pub replies : All IsToldLine new.region.told

@@ -59,7 +59,6 @@ pub record IsSound (h : Inside) : Type 0 where
   pub joined_at_last : h.closed ≡ true → (h.parts.objects.grey.running ≡ []) × (h.parts.objects.seat.lent ≡ 0) × (h.parts.region.out ≡ [])
   pub most : h.parts.cycle.rest.ordinal ≤ 1000000
   pub made : length h.parts.objects.nodes ≤ h.parts.cycle.rest.ordinal
-  pub few : h.parts.region.room ≤ 2 * h.parts.cycle.rest.ordinal
   pub none_out : h.parts.region.awaiting ≡ false → h.parts.region.out ≡ []
   pub totals : h.parts.region.awaiting ≡ true → AreOfOneOf h.since.value h.parts.region.totals
   pub replies : All IsToldLine h.parts.region.told

@@ -19,11 +19,11 @@ use crate::totals::stat;
 use callback_table::CallbackTable;
 use gc_graph::Command;
 use heap_cycle::{Gate, Outcome, Parts};
-use std::sync::Arc;
+use std::sync::{Arc, Wait};
 use std::thread::Threads;
 
 /// Does the command, and ends its outcome.
-pub(crate) fn run<R: Threads, G: Gate + Send + Sync + 'static>(
+pub(crate) fn run<R: Threads + Wait, G: Gate + Send + Sync + 'static>(
     rt: &R,
     parts: &mut Parts,
     outcome: &mut Outcome,
@@ -63,10 +63,10 @@ pub(crate) fn run<R: Threads, G: Gate + Send + Sync + 'static>(
         Command::Sweep { n } => sweep_some(parts, outcome, n),
         Command::SweepAll => sweep_all(parts, outcome),
         Command::Stat => stat(parts, outcome),
-        Command::Export { p, x } => export(parts, outcome, p, x),
-        Command::Import { x, p } => import(parts, outcome, x, p),
+        Command::Export { p, x } => export(rt, parts, outcome, p, x),
+        Command::Import { x, p } => import(rt, parts, outcome, x, p),
         Command::At { j, order } => at(parts, outcome, j, order),
-        Command::ThreadsGo => go(parts, outcome),
-        Command::ThreadsJoin => join(parts, outcome),
+        Command::ThreadsGo => go(rt, parts, outcome),
+        Command::ThreadsJoin => join(rt, parts, outcome),
     }
 }

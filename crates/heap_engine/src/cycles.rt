@@ -10,12 +10,12 @@ ghost use Rattle.heap_engine.specs.CarriedOut.{IsAsked, IsCarriedOut, IsDoneAlon
 use callback_table::CallbackTable;
 use gc_graph::Want;
 use heap_cycle::{Gate, Outcome, Parts};
-use std::sync::Arc;
+use std::sync::{Arc, Wait};
 use std::thread::Threads;
 
 /// The start of a cycle.
 #[inline(never)]
-pub fn start<R: Threads, G: Gate + Send + Sync + 'static>(
+pub fn start<R: Threads + Wait, G: Gate + Send + Sync + 'static>(
     rt: &R,
     parts: &mut Parts,
     outcome: &mut Outcome,
@@ -41,7 +41,7 @@ pub fn step(parts: &mut Parts, outcome: &mut Outcome, n: u32)
 
 /// The pause of a cycle.
 #[inline(never)]
-pub fn finish<R: Threads>(
+pub fn finish<R: Threads + Wait>(
     rt: &R,
     parts: &mut Parts,
     outcome: &mut Outcome,
@@ -59,7 +59,7 @@ pub fn finish<R: Threads>(
 
 /// A whole collection.
 #[inline(never)]
-pub fn collect<R: Threads>(
+pub fn collect<R: Threads + Wait>(
     rt: &R,
     parts: &mut Parts,
     outcome: &mut Outcome,

@@ -21,7 +21,7 @@ use callback_table::CallbackTable;
 use gc_graph::{Command, Line, NoMemory};
 use heap_cycle::Gate;
 use std::alloc::Global;
-use std::sync::Arc;
+use std::sync::{Arc, Wait};
 use std::thread::Threads;
 use type_table::TypeTable;
 
@@ -95,7 +95,7 @@ impl<'a, G: Gate + Send + Sync + 'static> Heap<'a, G> {
     }
 
     /// Runs a command. The answer is the number of lines that `line` then tells.
-    pub fn act<R: Threads>(&mut self, rt: &R, command: &Command) -> u32
+    pub fn act<R: Threads + Wait>(&mut self, rt: &R, command: &Command) -> u32
         requires few { self.old.core.state.ordinal < 1000000 }
         requires opened { self.old.core.closed ≡ false }
         requires allowed { IsAllowed (length self.old.core.setup.types) command.now }

@@ -27,7 +27,7 @@ use ghost_values::GhostValue;
 use heap_cycle::{Cycle, Gate, Handles, Objects, Outcome, OwnedRegion, Parts};
 use std::alloc::Global;
 use std::marker::Model;
-use std::sync::Arc;
+use std::sync::{Arc, Wait};
 use std::thread::Threads;
 use type_table::TypeTable;
 
@@ -111,7 +111,7 @@ impl Core {
         })
     }
 
-    pub fn act<R: Threads, G: Gate + Send + Sync + 'static>(
+    pub fn act<R: Threads + Wait, G: Gate + Send + Sync + 'static>(
         &mut self,
         rt: &R,
         command: &Command,
@@ -143,7 +143,6 @@ impl Core {
             gate,
             command,
         );
-        self.parts.region.orders_are_begun();
         self.parts.objects.seat_has_all_words();
         self.parts.cycle.count_command();
         self.parts.region.told_count() + self.outcome.count(self.parts.cycle.ran())
@@ -200,7 +199,6 @@ impl Core {
             → HasDoneFirst self.old.state self.old.state.unprinted j }
         ensures closed { IsClosed self.old self.new }
     {
-        self.parts.region.orders_are_begun();
         let (n, u, g) = self.parts.objects.totals();
         self.stop(rt);
         Line::End { n, u, g }
@@ -208,12 +206,13 @@ impl Core {
 
     /// Joins the markers of an open cycle, which is left without a pause, and the threads that run.
     fn stop<R: Threads>(&mut self, rt: &R)
+        ensures begun { (j : ℕ) → Contains self.old.state.running j
+            → HasDoneFirst self.old.state self.old.state.unprinted j }
         ensures closed { IsClosed self.old self.new }
     {
-        if self.closed {
-            return;
+        if !self.closed {
+            heap_cycle::dismiss(rt, &mut self.parts);
         }
-        heap_cycle::dismiss(rt, &mut self.parts);
         self.parts.region.close();
         self.closed = true;
     }

@@ -19,8 +19,8 @@
 //! until the pause. After a step that is done no node is marked and untraced, unless a push was refused
 //! in the cycle; beside markers the owner's last pop and steal found nothing, or it took 2^32 - 1
 //! items. Each item that it takes beside them it claims, finds traced or notes, unless a note was
-//! refused. A heap that is closed has no marker and no thread that runs. What was taken of a thread's
-//! entries are those of its first orders, and a join tells totals of states since the threads went.
+//! refused. A heap that is closed has no marker and no thread that runs, and what it has taken of a
+//! thread's entries are those of its first orders. A join tells totals of states since threads went.
 //!
 //! What is only tested or not said: that memory suffices, and how long a command takes.
 #![tactic(auto)]

@@ -14,32 +14,34 @@ ghost use Rattle.heap_engine.specs.CarriedOut.{IsAsked, IsCarriedOut};
 use crate::fields::line_of;
 use gc_graph::{Line, NoMemory, Refusal};
 use heap_cycle::{Outcome, Parts};
+use std::sync::Wait;
 
 /// Slot x of the region becomes strong for what slot p names. Want of memory is free.
-pub fn export(parts: &mut Parts, outcome: &mut Outcome, p: u32, x: u32)
+pub fn export<R: Wait>(rt: &R, parts: &mut Parts, outcome: &mut Outcome, p: u32, x: u32)
     requires asked { IsAsked parts.old outcome.old }
     requires from { p < 256 }
     requires into { x < 32 }
     ensures done { IsCarriedOut (C.Export p x) parts.old parts.new outcome.old outcome.new }
 {
-    outcome.end(export_node(parts, p, x));
+    outcome.end(export_node(rt, parts, p, x));
 }
 
 /// Slot p gets what slot x of the region names; from a weak slot it is a weak read. Want of memory
 /// is free.
-pub fn import(parts: &mut Parts, outcome: &mut Outcome, x: u32, p: u32)
+pub fn import<R: Wait>(rt: &R, parts: &mut Parts, outcome: &mut Outcome, x: u32, p: u32)
     requires asked { IsAsked parts.old outcome.old }
     requires from { x < 32 }
     requires into { p < 256 }
     ensures done { IsCarriedOut (C.Import x p) parts.old parts.new outcome.old outcome.new }
 {
-    outcome.end(import_node(parts, x, p));
+    outcome.end(import_node(rt, parts, x, p));
 }
 
 /// The slot becomes strong, where slot p isn't null.
-fn export_node(parts: &mut Parts, p: u32, x: u32) -> Line
+fn export_node<R: Wait>(rt: &R, parts: &mut Parts, p: u32, x: u32) -> Line
     requires ready { IsReady parts.old }
     requires region { HasRegion parts.old }
+    requires quiet { parts.old.region.told ≡ [] }
     requires from { p < 256 }
     requires into { x < 32 }
     ensures step { StepExport (state_of parts.old) p x (piece_of parts.old.region parts.new.region)
@@ -54,7 +56,10 @@ fn export_node(parts: &mut Parts, p: u32, x: u32) -> Line
     };
     let number = parts.objects.number_at(place);
     let before = heap_cycle::moment(parts);
-    match parts.region.export(&mut parts.objects, x, number, place) {
+    match parts
+        .region
+        .export(rt, &mut parts.objects, x, number, place)
+    {
         Ok(()) => {
             parts.take_since(&before);
             Line::Fine
@@ -64,9 +69,10 @@ fn export_node(parts: &mut Parts, p: u32, x: u32) -> Line
 }
 
 /// The line that tells what slot p got.
-fn import_node(parts: &mut Parts, x: u32, p: u32) -> Line
+fn import_node<R: Wait>(rt: &R, parts: &mut Parts, x: u32, p: u32) -> Line
     requires ready { IsReady parts.old }
     requires region { HasRegion parts.old }
+    requires quiet { parts.old.region.told ≡ [] }
     requires from { x < 32 }
     requires into { p < 256 }
     ensures step { StepImport (state_of parts.old) x p (piece_of parts.old.region parts.new.region)
@@ -77,7 +83,7 @@ fn import_node(parts: &mut Parts, x: u32, p: u32) -> Line
 {
     gc_graph::orders_keep_valid();
     let before = heap_cycle::moment(parts);
-    match parts.region.import(&mut parts.objects, x) {
+    match parts.region.import(rt, &mut parts.objects, x) {
         Ok(target) => {
             parts.take_since(&before);
             parts.handles.put(p, target);

@@ -10,6 +10,7 @@ ghost use Rattle.heap_engine.specs.Going.{AreTotalsOf};
 
 use gc_graph::{Line, NoMemory, Order};
 use heap_cycle::{Outcome, Parts};
+use std::sync::Wait;
 use thread_queues::Totals;
 
 /// The order waits for its thread. Want of memory is free.
@@ -29,25 +30,25 @@ pub fn at(parts: &mut Parts, outcome: &mut Outcome, j: u32, order: Order)
 }
 
 /// The threads that have orders go, and are handed the heap's totals.
-pub fn go(parts: &mut Parts, outcome: &mut Outcome)
+pub fn go<R: Wait>(rt: &R, parts: &mut Parts, outcome: &mut Outcome)
     requires asked { IsAsked parts.old outcome.old }
     requires joined { parts.old.region.awaiting ≡ false }
     ensures done { IsCarriedOut C.ThreadsGo parts.old parts.new outcome.old outcome.new }
 {
     let totals = totals_of(parts);
-    let m = parts.region.go(totals);
+    let m = parts.region.go(rt, totals);
     outcome.end(Line::Going { m });
 }
 
 /// The threads are joined, and what they did is told.
-pub fn join(parts: &mut Parts, outcome: &mut Outcome)
+pub fn join<R: Wait>(rt: &R, parts: &mut Parts, outcome: &mut Outcome)
     requires asked { IsAsked parts.old outcome.old }
     requires awaited { parts.old.region.awaiting ≡ true }
     ensures done { IsCarriedOut C.ThreadsJoin parts.old parts.new outcome.old outcome.new }
 {
     gc_graph::orders_keep_valid();
     let before = heap_cycle::moment(parts);
-    let m = parts.region.join(&mut parts.objects);
+    let m = parts.region.join(rt, &mut parts.objects);
     parts.take_since(&before);
     outcome.end(Line::Joined { m });
 }

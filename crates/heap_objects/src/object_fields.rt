@@ -106,6 +106,13 @@ impl Objects {
         self.space.words().load::<WeakRead>(&mut self.seat, place);
     }
 
+    /// Whether marking goes on: else a weak read keeps nothing.
+    pub fn is_marking(&self) -> bool
+        ensures { result ≡ self.now.seat.on }
+    {
+        self.grey.marking.on
+    }
+
     /// Writes the content into the field, which is field f of the named object.
     pub fn store(&mut self, named: &GhostValue<Names>, f: u32, field: Field, content: &Content)
         requires valid { AreOfValid (setup_of_objects self.old) self.old.nodes }

@@ -34,6 +34,7 @@ use ghost_values::GhostValue;
 use page_space::Space;
 use page_words::MutatorSeat;
 use persistent_slots::Slots;
+use std::sync::Wait;
 use std::thread::Threads;
 
 /// What a pause did, and how many objects the markers that it joined had traced.
@@ -120,14 +121,14 @@ impl Objects {
     /// that the pause found, and, unless it is precise, the words of the stack reach is kept, what
     /// couldn't be kept before is condemned unless the region's slots or the stack's words reach it,
     /// what is weak and names a condemned object becomes null, and the prefinalizers of these run.
-    /// Markers that run are stopped and joined first.
+    /// Markers that run are stopped and joined first. Then it waits for its turn at the region.
     #[inline(never)]
-    pub fn finish<'a, R: Threads>(
+    pub fn finish<'a, R: Threads + Wait>(
         &mut self,
         rt: &R,
         strong: &'a Slots,
         weak: &mut Slots,
-        region: &mut Region,
+        region: &Region,
         pass: &mut Pass,
         stack: &[u64],
         precise: bool,
@@ -144,7 +145,7 @@ impl Objects {
         requires weak { (slots : List (Option ℕ)) × NamePlaces self.old.nodes slots weak.old }
         requires registered { All (IsRegistered self.old.nodes (length self.old.callbacks))
             registry.old.entries }
-        requires shared { IsPausable self.old.nodes region.old pass.old }
+        requires shared { IsPausable self.old.nodes region.now pass.old }
         ensures paused { (slots : List (Option ℕ)) (may : List Bool)
             → NamePlaces self.old.nodes slots strong.now → HasMarking may self.old
             → IsPaused self.old.callbacks
@@ -158,7 +159,7 @@ impl Objects {
         ensures weak { (slots : List (Option ℕ)) → NamePlaces self.old.nodes slots weak.old →
             weak.new ≡ places_of_slots self.new.nodes
             (map (clear_slot (is_dead_at self.new.nodes)) slots) }
-        ensures region { IsPausedRegion self.new.nodes region.old pass.old region.new pass.new }
+        ensures region { IsPausedRegion self.new.nodes pass.old pass.new }
         ensures rest { ObjectsAreAtRest self.new }
         ensures judged { BodiesAreJudged self.new.seat }
         ensures kept { result.pause.kept ≡ live_count self.new.nodes }
@@ -177,17 +178,18 @@ impl Objects {
         let _objects = self.space.objects();
         let crew = gather(rt, &self.space, &mut self.seat, &mut self.grey);
         let result = pause(
+            rt,
             Parts {
                 seat: &mut self.seat,
                 nodes: &mut self.nodes,
                 marking: &mut self.grey.marking,
                 weak,
                 registry,
-                region,
                 pass,
                 space: &self.space,
                 types: &self.types,
                 strong,
+                region,
                 callbacks,
                 traced: self.grey.traced + crew,
             },

@@ -1,90 +1,87 @@
--- Threads go: what they made is ahead of what was taken.
-use Rattle.std.proofs.Common.{◌≡◌, ℕ, ◌+◌, ◌≤◌, Bool, true, false, cond, List, [], ◌∷◌, ◌++◌, length, take, drop, map, All, sym, ap, ◌∙◌, subst, arith}
-use Rattle.std.specs.List.{Contains, flat_map, sum_by}
+-- Threads go: what they make of their orders is known through their passes.
+use Rattle.std.proofs.Common.{◌≡◌, ℕ, true, false, List, ◌++◌, take, drop, map, All, None, Some, sym, ap, ◌∙◌, subst}
+use Rattle.std.specs.List.{Contains, flat_map}
 use Rattle.std.proofs.lemmas.Bool.{true≢false}
-use Rattle.std.proofs.lemmas.List.{drop-append-le, map-append}
-use Rattle.std.proofs.lemmas.List.Elements.{All-cons, All-head, All-nil, All-tail}
+use Rattle.std.proofs.lemmas.List.{append_assoc, append-nil, map-append, take-append-drop}
+use Rattle.std.proofs.lemmas.List.Elements.{All-nil}
 use Rattle.gc_graph.specs.declared.command.Order.{Order}
-use Rattle.gc_graph.specs.declared.region.Entry.{Entry}
-use Rattle.gc_graph.specs.Outcomes.{IsThreadOp}
-use Rattle.gc_graph.specs.RegionSteps.{HasDone, entries_by, reply_line}
+use Rattle.gc_graph.specs.RegionSteps.{Answer, HasDone, entries_by, reply_line}
 use Rattle.cross_thread_region.specs.declared.chronicle.PlacedEntry.{PlacedEntry}
-use Rattle.cross_thread_region.specs.Calls.{PassView, RegionView, free_history}
-use Rattle.cross_thread_region.specs.Histories.{entries_of, is_started}
-use Rattle.cross_thread_region.specs.OrdersStay.{started_on}
-use Rattle.thread_queues.specs.Going.{AreOut, HaveGone, IsFirst}
+use Rattle.cross_thread_region.specs.Calls.{PassView}
+use Rattle.cross_thread_region.specs.Histories.{entries_of}
+use Rattle.thread_queues.specs.Going.{AreOut, HasDoneWith, HaveGone}
 use Rattle.thread_queues.specs.Queues.{QueuesView, queue_in, threads_in}
 use Rattle.thread_queues.specs.declared.totals.Totals.{Totals}
-use Rattle.heap_region.specs.Inside.{HaveDone, IsOwned, MirrorView}
+use Rattle.heap_region.specs.declared.owned.OwnedRegion.TheInside.{Inside}
+use Rattle.heap_region.specs.Inside.{HaveDone, taken_of}
 use Rattle.heap_region.specs.ThreadEntries.{entries_on, owners_by_none, thread_above}
-use Rattle.heap_region.proofs.OwnedOn.{room_for_pause}
-use Rattle.heap_region.proofs.Taken.{taken_within}
+use Rattle.heap_region.proofs.Beginnings.{none_named}
+use Rattle.heap_region.proofs.Fields.{AreOwned}
 
--- what threads made are their orders
-made_orders : (js : List ℕ) (made : List PlacedEntry) → All (λ (e : Entry). Contains js e.thread × IsThreadOp e.op) (entries_of made)
-    → All (λ (p : PlacedEntry). IsThreadOp p.entry.op) made
-made_orders js [] others = All-nil (λ (p : PlacedEntry). IsThreadOp p.entry.op)
-made_orders js (p ∷ made) others =
-    let Is : Entry → Type 0 = λ (e : Entry). Contains js e.thread × IsThreadOp e.op in
-    All-cons (λ (q : PlacedEntry). IsThreadOp q.entry.op) p made (All-head Is p.entry (entries_of made) others).1
-    (made_orders js made (All-tail Is p.entry (entries_of made) others))
+module _ (r : Inside) (owned : AreOwned r) (still : r.threads.awaiting ≡ false) (opened : r.closed ≡ false) where
+  abbrev untold : List PlacedEntry
+  untold = drop r.printed (taken_of r.pass r.taken)
 
-module _ {region : RegionView} {pass : PassView} {queues : QueuesView} {mirror : MirrorView} {totals : Totals} {printed shown : ℕ} {closed : Bool}
-    (owned : IsOwned region pass queues mirror totals printed shown closed) (still : queues.awaiting ≡ false)
-    (after : RegionView) (passed : PassView) (gone : QueuesView) (handed : Totals) (same : gone.queues ≡ queues.queues)
-    (running : gone.running ≡ threads_in queues.queues) (awaiting : gone.awaiting ≡ true)
-    (went : HaveGone queues.queues handed (free_history region) (free_history after) gone.replies) where
-  abbrev history : List PlacedEntry
-  history = free_history region
+  -- the pass has seen no more than was taken
+  all_taken : r.pass.seen ≡ taken_of r.pass r.taken
+  all_taken =
+      sym (take-append-drop r.taken r.pass.seen)
+      ∙ ap (λ rest. taken_of r.pass r.taken ++ rest)
+      (none_named (λ (p : PlacedEntry). p.entry.thread) (drop r.taken r.pass.seen)
+      (subst (λ out. All (λ (p : PlacedEntry). Contains out p.entry.thread) (drop r.taken r.pass.seen)) (owned.none_out still) (owned.ahead opened)))
+      ∙ append-nil (taken_of r.pass r.taken)
 
-  -- entries that no join has told are the owner's, and what the threads made
-  untold : entries_of (drop printed (free_history after)) ≡ entries_of (drop printed history) ++ entries_of went.made
-  untold =
-      ap (λ h. entries_of (drop printed h)) went.grown
-      ∙ ap entries_of (drop-append-le printed history went.made (omega (arith, owned.printed_few, taken_within owned)))
-      ∙ map-append (λ (p : PlacedEntry). p.entry) (drop printed history) went.made
+  split : r.pass.seen ≡ take r.printed r.pass.seen ++ untold
+  split = sym (take-append-drop r.printed r.pass.seen) ∙ ap (λ xs. take r.printed r.pass.seen ++ drop r.printed xs) all_taken
 
-  made_by : (j : ℕ) → Contains (threads_in queues.queues) j → entries_by j (entries_of (drop printed (free_history after))) ≡ entries_by j (entries_of went.made)
-  made_by j runs =
-      ap (entries_by j) untold ∙ entries_on j (entries_of (drop printed history)) (entries_of went.made)
-      ∙ ap (λ es. es ++ entries_by j (entries_of went.made))
-      (owners_by_none j (entries_of (drop printed history)) (thread_above queues.queues j runs) (owned.owners still))
-
-  have_done : HaveDone gone (drop printed (free_history after))
-  have_done = record {
-    answers = went.answers;
-    done = λ j runs.
-        (let there : Contains (threads_in queues.queues) j = subst (λ (js : List ℕ). Contains js j) running runs in
-        subst (λ (qs : List (List Order)). HasDone j (queue_in qs j) (went.answers j) (entries_by j (entries_of (drop printed (free_history after))))) (sym same)
-        (subst (HasDone j (queue_in queues.queues j) (went.answers j)) (sym (made_by j there)) (went.done j there)));
-    replies = went.replies_are ∙ ap (flat_map (λ j. map (reply_line j) (went.answers j))) (sym running);
-    all = running ∙ ap threads_in (sym same);
-  }
-
-  start_stays : is_started (free_history after) ≡ is_started history
-  start_stays = ap is_started went.grown ∙ started_on history went.made (made_orders (threads_in queues.queues) went.made went.others)
-
-  pub has_gone : length gone.replies ≤ sum_by length queues.queues → length (free_history after) ≤ length history + sum_by length queues.queues
-      → passed ≡ record pass { out = passed.out } → IsFirst after passed → AreOut after passed gone
-      → IsOwned after passed gone mirror handed printed shown closed
-  has_gone few few_entries pass_stays first outs =
-      let seen : passed.seen ≡ pass.seen = ap (λ (p : PassView). p.seen) pass_stays in
-      let waits : cond queues.awaiting 0 (sum_by length queues.queues) ≡ sum_by length queues.queues = ap (λ b. cond b 0 (sum_by length queues.queues)) still in
-      let none_waits : cond gone.awaiting 0 (sum_by length gone.queues) ≡ 0 = ap (λ b. cond b 0 (sum_by length gone.queues)) awaiting in
-      let started : room_for_pause (is_started (free_history after)) ≡ room_for_pause (is_started history) = ap room_for_pause start_stays in
+  -- what joins have told, and behind it the owner's entries and then those of the thread
+  done_with : (passes : List PassView) (j : ℕ) (orders : List Order) (answers : List Answer) → Contains (threads_in r.threads.queues) j
+      → HasDoneWith passes r.pass.seen j orders answers → HasDoneWith passes (take r.printed r.pass.seen) j orders answers
+  done_with passes j orders answers runs done =
+      let by : entries_by j (entries_of (untold ++ done.made)) ≡ entries_by j (entries_of done.made) =
+      ap (entries_by j) (map-append (λ (p : PlacedEntry). p.entry) untold done.made) ∙ entries_on j (entries_of untold) (entries_of done.made)
+      ∙ ap (λ es. es ++ entries_by j (entries_of done.made)) (owners_by_none j (entries_of untold) (thread_above r.threads.queues j runs) (owned.owners still)) in
       record {
-        first = first;
-        outs = outs;
-        few = omega (arith, owned.few, ap length seen);
-        kept = owned.kept ∙ ap (λ h. entries_of (take (length mirror.entries) h)) (sym seen);
-        all = λ opened. owned.all opened ∙ ap length (sym seen);
-        printed_few = owned.printed_few;
-        shown_few = owned.shown_few;
-        none_out = λ calm. absurd (true≢false (sym awaiting ∙ calm));
-        none_run = λ calm. absurd (true≢false (sym awaiting ∙ calm));
-        owners = λ calm. absurd (true≢false (sym awaiting ∙ calm));
-        done = λ awaits. have_done;
-        told = went.told;
-        room = omega (arith, owned.room, waits, none_waits, started, few_entries);
-        room_told = omega (arith, owned.room, waits, few);
+        pass = done.pass;
+        among = done.among;
+        number_is = done.number_is;
+        made = untold ++ done.made;
+        seen = done.seen ∙ ap (λ xs. xs ++ done.made) split ∙ append_assoc (take r.printed r.pass.seen) untold done.made;
+        done = subst (HasDone j orders answers) (sym by) done.done;
       }
+
+  module _ (quiet : r.held ≡ None) (gone : QueuesView) (handed : Totals) (out : List ℕ) (same : gone.queues ≡ r.threads.queues)
+      (running : gone.running ≡ threads_in r.threads.queues) (awaiting : gone.awaiting ≡ true)
+      (went : HaveGone r.threads.queues handed r.pass.seen gone.passes gone.replies) where
+    have_done : HaveDone gone (take r.printed r.pass.seen)
+    have_done = record {
+      answers = went.answers;
+      done = λ j runs.
+          (let there : Contains (threads_in r.threads.queues) j = subst (λ (js : List ℕ). Contains js j) running runs in
+          subst (λ (qs : List (List Order)). HasDoneWith gone.passes (take r.printed r.pass.seen) j (queue_in qs j) (went.answers j)) (sym same)
+          (done_with gone.passes j (queue_in r.threads.queues j) (went.answers j) there (went.done j there)));
+      replies = went.replies_are ∙ ap (flat_map (λ j. map (reply_line j) (went.answers j))) (sym running);
+      all = running ∙ ap threads_in (sym same);
+    }
+
+    pub has_gone : AreOut r.region (record r.pass { out = out }) gone
+        → AreOwned (record r { pass = record r.pass { out = out }; threads = gone; totals = handed })
+    has_gone outs = record {
+      owner = record { lock = owned.owner.lock; first = owned.owner.first; slots = owned.owner.slots; turn = owned.owner.turn };
+      holds = λ h held. absurd (let never : Some h ≡ None = sym held ∙ quiet in cc);
+      outs = outs;
+      few = owned.few;
+      ahead = λ still_open.
+          subst (λ rest. All (λ (p : PlacedEntry). Contains out p.entry.thread) rest)
+          (sym (none_named (λ (p : PlacedEntry). p.entry.thread) (drop r.taken r.pass.seen)
+          (subst (λ outs. All (λ (p : PlacedEntry). Contains outs p.entry.thread) (drop r.taken r.pass.seen)) (owned.none_out still) (owned.ahead opened))))
+          (All-nil (λ (p : PlacedEntry). Contains out p.entry.thread));
+      printed_few = owned.printed_few;
+      shown_few = owned.shown_few;
+      none_out = λ calm. absurd (true≢false (sym awaiting ∙ calm));
+      none_run = λ calm. absurd (true≢false (sym awaiting ∙ calm));
+      owners = λ calm. absurd (true≢false (sym awaiting ∙ calm));
+      done = λ awaits still_open. have_done;
+      begun = λ shut. absurd (true≢false (sym shut ∙ opened));
+      told = went.told;
+    }

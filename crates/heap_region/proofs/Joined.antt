@@ -1,35 +1,35 @@
--- Threads are joined: what was ahead is taken, and told.
-use Rattle.std.proofs.Common.{◌≡◌, ℕ, ◌+◌, ◌-◌, ◌≤◌, Bool, true, false, cond, List, [], ◌++◌, length, take, drop, map, All, refl, sym, ap, ◌∙◌, subst, inl, inr, arith}
-use Rattle.std.specs.List.{Contains, sum_by}
-use Rattle.std.proofs.Math.Seq.{drop-length, take-append-add, take-length}
+-- Threads are joined: what they have done is taken, and told.
+use Rattle.std.proofs.Common.{◌≡◌, ℕ, ◌+◌, ◌-◌, ◌<◌, ◌≤◌, true, false, List, [], ◌++◌, length, take, drop, map, All, Option, Some, refl, sym, ap, ◌∙◌, subst, inl, inr, arith}
+use Rattle.std.specs.Prelude.{is_some}
+use Rattle.std.specs.List.{Contains}
+use Rattle.std.proofs.Math.Seq.{drop-length, take-length}
 use Rattle.std.proofs.lemmas.Bool.{true≢false}
+use Rattle.std.proofs.lemmas.List.{append-nil, length-append, length-drop, length-map, take-append-le}
 use Rattle.std.proofs.lemmas.List.Elements.{All-nil, Contains-append_cases}
 use Rattle.gc_graph.specs.declared.line.Line.{Line}
 use Rattle.gc_graph.specs.declared.line.Line.TheVariants as L
 use Rattle.gc_graph.specs.declared.region.Entry.{Entry}
 use Rattle.gc_graph.specs.History.{IsLegal}
 use Rattle.gc_graph.specs.Members.{Contains-map_some}
-use Rattle.gc_graph.specs.Outcomes.{took}
 use Rattle.gc_graph.specs.RegionSteps.{HasDone, entries_by}
 use Rattle.gc_graph.specs.State.{Node}
 use Rattle.cross_thread_region.specs.declared.chronicle.PlacedEntry.{PlacedEntry}
-use Rattle.cross_thread_region.specs.Calls.{AreByRight, Continues, PassView, RegionView, free_history}
-use Rattle.cross_thread_region.specs.Histories.{entries_of, slots_of}
-use Rattle.thread_queues.specs.Going.{IsFirst}
+use Rattle.cross_thread_region.specs.Calls.{AreByRight, Finds, HeldView, PassView}
+use Rattle.cross_thread_region.specs.Histories.{entries_of}
+use Rattle.thread_queues.specs.Going.{HaveMet}
 use Rattle.thread_queues.specs.Queues.{QueuesView, queue_in, queues_left}
-use Rattle.thread_queues.specs.declared.totals.Totals.{Totals}
-use Rattle.heap_objects.specs.Marks.{HasMarks}
 use Rattle.heap_objects.specs.Objects.{ObjectsView}
+use Rattle.heap_region.specs.declared.owned.OwnedRegion.TheInside.{Inside}
 use Rattle.heap_region.specs.Calls.{HasJoined}
 use Rattle.heap_region.specs.Handled.{IsHandled, LooksAgain}
-use Rattle.heap_region.specs.Inside.{HaveDone, IsOwned, IsOwners, MirrorView, taken_by}
+use Rattle.heap_region.specs.Inside.{HaveDone, IsHeld, IsOwned, IsOwners, IsOwnersPass, lines_told, taken_of}
 use Rattle.heap_region.specs.Owned.{OwnedView}
 use Rattle.heap_region.specs.Taking.{HasLooked, entries_between}
+use Rattle.heap_region.proofs.Beginnings.{none_named}
 use Rattle.heap_region.proofs.Closed.{none_are_out}
-use Rattle.heap_region.proofs.Fields.{view_of_fields}
-use Rattle.heap_region.proofs.Found.{handled_on, is_found, orders_found}
-use Rattle.heap_region.proofs.OwnedOn.{kept_len}
-use Rattle.heap_region.proofs.Taken.{all_seen, taken_before, taken_first, taken_len, taken_within}
+use Rattle.heap_region.proofs.Fields.{AreOwned, owned_view, view_of_fields}
+use Rattle.heap_region.proofs.Found.{are_orders, handled_at, is_found, others, out_above, taken_len, whole}
+use Rattle.heap_region.proofs.Meeting.{done_behind, have}
 
 -- totals stand among replies alone
 totals_replied : (replies : List Line) (es : List Entry) (line : Line) → ((e : Entry) → L.Entry e ≡ line → ⊥)
@@ -39,106 +39,121 @@ totals_replied replies es line no_entry there = elim (Contains-append_cases repl
   | inr entry ↦ (let which = Contains-map_some (λ (e : Entry). L.Entry e) es line entry in absurd (no_entry which.0 which.2))
 ]
 
-module _ {region : RegionView} {pass : PassView} {queues : QueuesView} {mirror : MirrorView} {totals : Totals} {printed shown : ℕ} {closed : Bool}
-    (owned : IsOwned region pass queues mirror totals printed shown closed) where
-  abbrev history : List PlacedEntry
-  history = free_history region
+-- where no pass is out, what is found was seen
+pub found_seen : (pass : PassView) (history : List PlacedEntry) → Finds pass history → pass.number ≡ 0 → pass.out ≡ [] → history ≡ pass.seen
+found_seen pass history finds first out =
+    finds.goes_on.all
+    ∙ ap (λ rest. pass.seen ++ rest)
+    (none_named (λ (p : PlacedEntry). p.entry.thread) finds.goes_on.rest
+    (subst (λ outs. All (λ (p : PlacedEntry). Contains outs p.entry.thread) finds.goes_on.rest) out (finds.goes_on.outs first)))
+    ∙ append-nil pass.seen
 
-  abbrev found : Continues pass history
-  found = owned.first.ready.is_pass
+-- how many lines a join tells
+pub lines_len : (replies : List Line) (shown : ℕ) (taken : List PlacedEntry) → length (lines_told true replies shown taken) ≡ length replies + (length taken - shown)
+lines_len replies shown taken =
+    omega (
+      arith,
+      length-append replies (map (λ entry. L.Entry entry) (entries_of (drop shown taken))),
+      length-map (entries_of (drop shown taken)) (λ (e : Entry). L.Entry e),
+      length-map (drop shown taken) (λ (p : PlacedEntry). p.entry),
+      length-drop shown taken,
+    )
+
+-- ---- what the owner's pass has seen once the others were joined to it
+
+module _ (r : Inside) (owned : AreOwned r) (opened : r.closed ≡ false) (awaits : r.threads.awaiting ≡ true) (seen : List PlacedEntry)
+    (met : HaveMet r.threads.passes r.pass seen) (legal : IsLegal (entries_of seen)) (right : AreByRight seen) where
+  -- it is found by its pass as it was before
+  joined_finds : Finds r.pass seen
+  joined_finds = record {
+    goes_on = record {
+      rest = met.rest;
+      all = met.grown;
+      others = others_made;
+      outs = λ first. met.outs;
+    };
+    legal = legal;
+    right = right;
+  } where
+    others_made : All (λ (p : PlacedEntry). p.entry.thread ≡ r.pass.number → ⊥) met.rest
+    others_made k d low same =
+        out_above r owned opened _ (met.outs k d low) (same ∙ owned.owner.first)
 
   abbrev pub joined_queues : QueuesView
-  joined_queues = record queues { queues = queues_left queues.queues queues.running; running = []; awaiting = false; passes = [] }
+  joined_queues = record r.threads { queues = queues_left r.threads.queues r.threads.running; running = []; awaiting = false; passes = [] }
 
-  abbrev pub joined_mirror : MirrorView
-  joined_mirror = record mirror { entries = entries_of history }
+  -- each beginning of it that has what was taken leaves the slots live nodes, with their places
+  pub handled_between : (nodes : List Node) → IsHandled nodes (taken_of r.pass r.taken) → (k : ℕ) → r.taken ≤ k → k < length seen → IsHandled nodes (take k seen)
+  handled_between nodes handled k above below =
+      let more : List PlacedEntry = others r owned opened seen joined_finds in
+      let is : seen ≡ taken_of r.pass r.taken ++ (more ++ []) = whole r owned opened seen joined_finds ∙ ap (λ xs. taken_of r.pass r.taken ++ xs) (sym (append-nil more)) in
+      subst (λ h. IsHandled nodes (take k h)) (sym is)
+      (handled_at nodes (taken_of r.pass r.taken) more [] k handled (are_orders r owned opened seen joined_finds)
+      (omega (arith, above, taken_len r owned))
+      (omega (arith, below, ap length (whole r owned opened seen joined_finds), length-append (taken_of r.pass r.taken) more)))
 
-  -- the region once they were joined
-  abbrev pub joined_view : OwnedView
-  joined_view = view_of_fields (all_seen region pass) joined_queues joined_mirror totals (length history) printed true closed
+  -- all of it is taken
+  module _ (passed : PassView) (held : Option HeldView) (taken : ℕ) (seen_is : passed.seen ≡ seen) (out_is : passed.out ≡ []) (taken_is : taken ≡ length seen) where
+    abbrev pub joined_view : OwnedView
+    joined_view = view_of_fields passed joined_queues held r.totals taken taken r.printed r.closed
 
-  entries_len : length (entries_of history) ≡ length history
-  entries_len = kept_len (entries_of history) history refl
+    taken_now : taken_of passed taken ≡ seen
+    taken_now = ap (take taken) seen_is ∙ ap (λ n. take n seen) taken_is ∙ take-length seen
 
-  taken_now : taken_by (all_seen region pass) joined_mirror ≡ history
-  taken_now = ap (λ n. take n history) entries_len ∙ take-length history
+    pub few_seen : r.taken ≤ length seen
+    few_seen = omega (arith, owned.few, ap length met.grown, length-append r.pass.seen met.rest)
 
-  -- what a join gives, from what its calls give
-  pub joined_as : (P : PassView → QueuesView → MirrorView → ℕ → Type 0) (passed seen : PassView) (left : QueuesView) (kept : MirrorView) (count : ℕ)
-      → seen ≡ all_seen region pass → left ≡ joined_queues → passed ≡ seen → kept ≡ record mirror { entries = entries_of seen.seen } → count ≡ length kept.entries
-      → P (all_seen region pass) joined_queues joined_mirror (length history) → P passed left kept count
-  joined_as P passed seen left kept count seen_is left_is passed_is kept_is count_is holds =
-      let whole : kept ≡ joined_mirror = kept_is ∙ ap (λ (p : PassView). record mirror { entries = entries_of p.seen }) seen_is in
-      let all : count ≡ length history = count_is ∙ ap (λ (m : MirrorView). length m.entries) whole ∙ entries_len in
-      subst (λ p. P p left kept count) (sym (passed_is ∙ seen_is))
-      (subst (λ q. P (all_seen region pass) q kept count) (sym left_is)
-      (subst (λ m. P (all_seen region pass) joined_queues m count) (sym whole)
-      (subst (λ n. P (all_seen region pass) joined_queues joined_mirror n) (sym all) holds)))
+    pub stays_owned : IsOwnersPass r.region passed held → ((h : HeldView) → held ≡ Some h → IsHeld passed joined_queues h taken r.printed)
+        → IsOwned r.region passed joined_queues held r.totals taken taken r.printed r.closed
+    stays_owned owner holds = record {
+      owner = owner;
+      holds = holds;
+      outs = none_are_out r.region passed joined_queues out_is refl;
+      few = omega (arith, taken_is, ap length seen_is);
+      ahead = λ still_open.
+          subst (All (λ (p : PlacedEntry). Contains passed.out p.entry.thread)) (sym (ap (drop taken) seen_is ∙ ap (λ n. drop n seen) taken_is ∙ drop-length seen))
+          (All-nil (λ (p : PlacedEntry). Contains passed.out p.entry.thread));
+      printed_few = omega arith;
+      shown_few = omega (arith, owned.printed_few, few_seen, taken_is);
+      none_out = λ still. out_is;
+      none_run = λ still. refl;
+      owners = λ still.
+          subst (λ (es : List PlacedEntry). All IsOwners (entries_of es)) (sym (ap (drop taken) taken_now ∙ ap (λ n. drop n seen) taken_is ∙ drop-length seen)) (All-nil IsOwners);
+      done = λ waits. absurd (true≢false (sym waits));
+      begun = λ shut. absurd (true≢false (sym shut ∙ opened));
+      told = owned.told;
+    }
 
-  -- what the objects looked at is what was taken
-  pub has_looked : (o after : ObjectsView) (seen : PassView) (telling : Bool) → seen ≡ all_seen region pass
-      → HasLooked o (taken_by seen mirror) (entries_between (length mirror.entries) (length seen.seen) seen.seen) after
-      → LooksAgain o (view_of_fields pass queues mirror totals printed shown telling closed) joined_view after
-  has_looked o after seen telling seen_is looks =
-      let first : taken_by seen mirror ≡ taken_by pass mirror = ap (λ (p : PassView). take (length mirror.entries) p.seen) seen_is ∙ taken_first owned in
-      let all : take (length seen.seen) seen.seen ≡ taken_by (all_seen region pass) joined_mirror =
-      take-length seen.seen ∙ ap (λ (p : PassView). p.seen) seen_is ∙ sym taken_now in
-      let piece : entries_between (length mirror.entries) (length seen.seen) seen.seen
-      ≡ entries_of (drop (length (taken_by pass mirror)) (taken_by (all_seen region pass) joined_mirror)) =
-      ap (λ n. entries_of (drop n (take (length seen.seen) seen.seen))) (sym (taken_len owned))
-      ∙ ap (λ h. entries_of (drop (length (taken_by pass mirror)) h)) all in
-      record {
-        others = looks.others;
-        marks = λ s limit nodes slots has.
-            subst (λ es. HasMarks s.phase limit (took s es).may after) piece (looks.marks s limit nodes (slots ∙ ap slots_of (sym first)) has);
-      }
-
-  -- all of it is taken, and the owner's alone
-  pub stays_owned : IsFirst region (all_seen region pass) → queues.awaiting ≡ true → sum_by length joined_queues.queues ≡ 0
-      → IsOwned region (all_seen region pass) joined_queues joined_mirror totals (length history) printed closed
-  stays_owned first awaits left =
-      let none_waits : cond queues.awaiting 0 (sum_by length queues.queues) ≡ 0 = ap (λ b. cond b 0 (sum_by length queues.queues)) awaits in
-      record {
-        first = first;
-        outs = none_are_out region (all_seen region pass) joined_queues refl refl;
-        few = omega (arith, entries_len);
-        kept = ap entries_of (sym taken_now);
-        all = λ opened. entries_len;
-        printed_few = omega (arith, entries_len);
-        shown_few = omega (arith, owned.printed_few, taken_within owned, entries_len);
-        none_out = λ still. refl;
-        none_run = λ still. refl;
-        owners = λ still. subst (λ (es : List PlacedEntry). All IsOwners (entries_of es)) (sym (drop-length history)) (All-nil IsOwners);
-        done = λ awaits. absurd (true≢false (sym awaits));
-        told = owned.told;
-        room = omega (arith, owned.room, none_waits, left);
-        room_told = owned.room_told;
-      }
-
-  module _ (opened : closed ≡ false) (right : AreByRight history) where
-    -- each beginning of the history that has what was taken leaves the slots live nodes, with their places
-    pub handled_between : (nodes : List Node) → IsHandled nodes (taken_by pass mirror) → (k : ℕ) → length mirror.entries ≤ k → IsHandled nodes (take k history)
-    handled_between nodes handled k above =
-        let seen : IsHandled nodes pass.seen = subst (IsHandled nodes) (taken_before owned opened) handled in
-        let long : k ≡ length pass.seen + (k - length pass.seen) = omega (arith, above, owned.all opened) in
-        let same : take k history ≡ pass.seen ++ take (k - length pass.seen) found.rest =
-        ap (take k) found.all ∙ ap (λ n. take n (pass.seen ++ found.rest)) long ∙ take-append-add pass.seen found.rest (k - length pass.seen) in
-        subst (IsHandled nodes) (sym same) (handled_on nodes pass.seen found.rest (k - length pass.seen) seen (orders_found owned right))
-
-    pub has_joined : (telling : Bool) → IsLegal (entries_of history) → queues.awaiting ≡ true
-        → HasJoined (view_of_fields pass queues mirror totals printed shown telling closed) joined_view (length queues.running)
-    has_joined telling legal awaits =
-        let have : HaveDone queues (drop printed history) = owned.done awaits in
-        let untold : List Entry = entries_of (drop printed (taken_by (all_seen region pass) joined_mirror)) in
+    pub has_joined : lines_told (is_some held) r.threads.replies r.printed (taken_of passed taken) ≡ lines_told true r.threads.replies r.printed (taken_of passed taken)
+        → HasJoined (owned_view r) joined_view (length r.threads.running)
+    has_joined tells =
+        let done : HaveDone r.threads (take r.printed r.pass.seen) = have r owned awaits opened seen met in
+        let untold : List Entry = entries_of (drop r.printed (taken_of passed taken)) in
         record {
-          others = found.rest;
-          found = is_found owned right telling opened legal;
-          taken = taken_now ∙ found.all ∙ ap (λ taken. taken ++ found.rest) (sym (taken_before owned opened));
-          answers = have.answers;
+          others = others r owned opened seen joined_finds;
+          found = is_found r owned opened seen joined_finds;
+          taken = taken_now ∙ whole r owned opened seen joined_finds;
+          answers = done.answers;
           done = λ j runs.
-              subst (λ h. HasDone j (queue_in queues.queues j) (have.answers j) (entries_by j (entries_of (drop printed h)))) (sym taken_now) (have.done j runs);
-          told = ap (λ replies. replies ++ map (λ entry. L.Entry entry) untold) have.replies;
-          totals = λ j o n u f there. owned.told j o n u f (totals_replied queues.replies untold (L.ReplyTotals j o n u f) (λ e never. (cc)) there);
+              subst (λ h. HasDone j (queue_in r.threads.queues j) (done.answers j) (entries_by j (entries_of (drop r.printed h)))) (sym taken_now)
+              (done_behind r owned awaits opened seen met j runs);
+          told = tells ∙ ap (λ replies. replies ++ map (λ entry. L.Entry entry) untold) done.replies;
+          totals = λ j o n u f there.
+              owned.told j o n u f (totals_replied r.threads.replies untold (L.ReplyTotals j o n u f) (λ e never. (cc)) (subst (λ ls. Contains ls (L.ReplyTotals j o n u f)) tells there));
           count_is = refl;
-          rest = ap (λ n. record joined_view { printed = n }) (ap length (sym taken_now));
+          rest = ap (λ out. record joined_view { out = out }) out_is ∙ ap (λ n. record joined_view { out = []; printed = n }) (taken_is ∙ sym (ap length taken_now));
         }
+
+    -- what the objects looked at is what was taken
+    pub has_looked : (objects looked : ObjectsView) (history : List PlacedEntry) → history ≡ seen
+        → HasLooked objects (take r.taken history) (entries_between r.taken taken history) looked → LooksAgain objects (owned_view r) joined_view looked
+    has_looked objects looked history is looks =
+        let first : take r.taken history ≡ taken_of r.pass r.taken =
+        ap (take r.taken) (is ∙ met.grown) ∙ take-append-le r.taken r.pass.seen met.rest owned.few in
+        let piece : entries_between r.taken taken history ≡ entries_of (drop (length (taken_of r.pass r.taken)) joined_view.taken) =
+        ap (λ h. entries_of (drop r.taken h)) (ap (take taken) is ∙ ap (λ n. take n seen) taken_is ∙ take-length seen ∙ sym taken_now)
+        ∙ ap (λ n. entries_of (drop n joined_view.taken)) (sym (taken_len r owned)) in
+        let now : HasLooked objects (taken_of r.pass r.taken) (entries_of (drop (length (taken_of r.pass r.taken)) joined_view.taken)) looked =
+        subst (λ es. HasLooked objects (taken_of r.pass r.taken) es looked) piece
+        (subst (λ h. HasLooked objects h (entries_between r.taken taken history) looked) first looks) in
+        record { others = now.others; marks = now.marks }

@@ -30,13 +30,6 @@ entry_at (e ∷ history) zero low = (e, refl, refl)
 entry_at (x ∷ history) (suc i) low =
     (let w = entry_at history i (omega (arith, low)) in (w.0, ap (λ l. x ∷ l) w.1, w.2))
 
--- and what is kept up to it
-pub entries_next : (history : List PlacedEntry) (i : ℕ) (e : Entry) → slice_get (entries_of history) i ≡ Some e
-    → entries_of (take (suc i) history) ≡ entries_of (take i history) ++ e ∷ []
-entries_next [] i e is = absurd (cc)
-entries_next (x ∷ history) zero e is = ap (λ (one : Entry). one ∷ []) (let same : x.entry ≡ e = cc in same)
-entries_next (x ∷ history) (suc i) e is = ap (λ l. x.entry ∷ l) (entries_next history i e is)
-
 -- so much more of the history is taken with it
 between_next : (history : List PlacedEntry) (from i : ℕ) (e : PlacedEntry) → from ≤ i → i < length history → take (suc i) history ≡ take i history ++ e ∷ []
     → entries_between from (suc i) history ≡ entries_between from i history ++ e.entry ∷ []

@@ -1,5 +1,5 @@
 -- What calls of the owner make of the region: each takes the entries that it finds, and then its own, which is the last one.
-use Rattle.std.specs.Prelude.{◌≡◌, ℕ, ◌+◌, ◌≤◌, false, true, List, [], ◌++◌, length, map, All, Contains}
+use Rattle.std.specs.Prelude.{◌≡◌, ℕ, ◌≤◌, false, true, List, [], ◌++◌, length, map, All, Contains}
 use Rattle.std.specs.List.{flat_map}
 use Rattle.gc_graph.specs.declared.line.Line.TheVariants as L
 use Rattle.gc_graph.specs.declared.region.Entry.{Entry}
@@ -26,23 +26,21 @@ pub record IsFound (old : OwnedView) (others : List PlacedEntry) : Type 0 where
   pub legal : IsLegalFrom (slots_of old.taken) (is_started old.taken) (entries_of others)
   pub told : old.printed ≤ length old.taken
 
--- the owner's entry was made behind what was found, with the reply of a region of one thread, and all of it was taken; nothing is told
--- before the command's last line
+-- the owner's entry was made behind what was found, with the reply of a region of one thread, and all of it was taken
 pub record HasEntered (op : Op) (place : ℕ) (old new : OwnedView) : Type 0 where
   pub others : List PlacedEntry
   pub found : IsFound old others
   pub taken : new.taken ≡ history_with_own (old.taken ++ others) op place
-  pub room : new.room ≤ old.room + 2
-  pub rest : new ≡ record old { taken = new.taken; room = new.room; told = [] }
+  pub rest : new ≡ record old { taken = new.taken }
 
 -- so was a pause's, which clears exactly the weak slots that name one of the dead nodes, as the slots were just before it
 pub record HasPauseEntry (nodes : List Node) (old new : OwnedView) : Type 0 where
   pub entry : HasEntered (O.Pause (dying_slots nodes (slots_of (found_of new)))) 0 old new
   pub weak : NamesWeakSlots (dying_slots nodes (slots_of (found_of new))) (slots_of (found_of new))
 
--- the threads that have orders went, and were handed these totals; what a join told is told no more
+-- the threads that have orders went, and were handed these totals
 abbrev pub HaveGoneOut : OwnedView → Totals → OwnedView → Type 0
-HaveGoneOut old totals new = new ≡ record old { running = threads_in old.queues; awaiting = true; totals = totals; told = []; out = new.out }
+HaveGoneOut old totals new = new ≡ record old { running = threads_in old.queues; awaiting = true; totals = totals; out = new.out }
 
 -- the threads that ran were joined, and all that they have done was taken: each did its orders, with these answers, and the join tells
 -- the answers, thread after thread, and then the entries that none has told; totals are those that the threads were handed
@@ -72,10 +70,7 @@ pub record HasJoined (old new : OwnedView) (count : ℕ) : Type 0 where
         told = new.told;
       }
 
--- a command of the owner took entries of the history, or none, made room for two more at most, and changed nothing else but that what a
--- join told may be told no more
+-- a command of the owner took entries of the history, or none, and changed nothing else
 pub record TakesMore (old new : OwnedView) : Type 0 where
   pub begins : Begins old.taken new.taken
-  pub room : new.room ≤ old.room + 2
-  pub told : old.told ≡ [] → new.told ≡ []
-  pub rest : new ≡ record old { taken = new.taken; room = new.room; told = new.told }
+  pub rest : new ≡ record old { taken = new.taken }

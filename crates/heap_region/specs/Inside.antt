@@ -1,25 +1,20 @@
 -- What the crate's own code cites: what is true of the region's fields between two calls.
-use Rattle.std.specs.Prelude.{◌≡◌, ℕ, ◌+◌, ◌≤◌, Bool, true, false, List, [], ◌++◌, length, map, take, drop, sum_by, All, Contains, if◌then◌else◌}
+use Rattle.std.specs.Prelude.{◌≡◌, ℕ, ◌≤◌, Bool, true, false, List, [], ◌++◌, length, map, take, drop, All, Contains, Option, Some, option_map, if◌then◌else◌}
 use Rattle.std.specs.List.{flat_map}
 use Rattle.gc_graph.specs.declared.line.Line.{Line}
 use Rattle.gc_graph.specs.declared.line.Line.TheVariants as L
 use Rattle.gc_graph.specs.declared.region.Entry.{Entry}
 use Rattle.gc_graph.specs.RegionSteps.{Answer, HasDone, entries_by, reply_line}
 use Rattle.cross_thread_region.specs.declared.chronicle.PlacedEntry.{PlacedEntry}
-use Rattle.cross_thread_region.specs.Calls.{PassView, RegionView, free_history}
-use Rattle.cross_thread_region.specs.Histories.{entries_of, is_started}
-use Rattle.thread_queues.specs.Going.{AreOut, AreTotals, IsFirst}
+use Rattle.cross_thread_region.specs.Calls.{HeldView, PassView, RegionView}
+use Rattle.cross_thread_region.specs.Histories.{entries_of}
+use Rattle.thread_queues.specs.Going.{AreOut, AreTotals, HasDoneWith}
 use Rattle.thread_queues.specs.Queues.{QueuesView, queue_in, threads_in}
 use Rattle.thread_queues.specs.declared.totals.Totals.{Totals}
 
--- the entries that the owner keeps, and for how many of them there is room
-pub record MirrorView : Type 0 where
-  pub entries : List Entry
-  pub room : ℕ
-
--- what was taken of the history: as much as is kept of what the pass has seen
-abbrev pub taken_by : PassView → MirrorView → List PlacedEntry
-taken_by pass mirror = take (length mirror.entries) pass.seen
+-- what was taken of the history: the first entries that the pass has seen
+abbrev pub taken_of : PassView → ℕ → List PlacedEntry
+taken_of pass taken = take taken pass.seen
 
 -- the lines that a join tells before its last one: what the orders were answered, and then the entries behind those that were told
 -- before
@@ -30,34 +25,49 @@ lines_told telling replies shown taken = if telling then replies ++ map (λ entr
 abbrev pub IsOwners : Entry → Type 0
 IsOwners entry = entry.thread ≡ 0
 
--- the threads that run have done their orders: these are their answers, which their queues hold as replies, and their entries are among
--- those that no join has told
-pub record HaveDone (queues : QueuesView) (untold : List PlacedEntry) : Type 0 where
+-- the pass is the first one of a region of 32 slots, and has the turn in which this is held, if something is
+pub record IsOwnersPass (region : RegionView) (pass : PassView) (held : Option HeldView) : Type 0 where
+  pub lock : pass.lock ≡ region.lock
+  pub first : pass.number ≡ 0
+  pub slots : region.slots ≡ 32
+  pub turn : pass.turn ≡ option_map (λ h. (h.ticket, h.history)) held
+
+-- a join holds all that its pass has seen, which was taken, while it has lines to tell and no join is awaited
+pub record IsHeld (pass : PassView) (queues : QueuesView) (held : HeldView) (taken shown : ℕ) : Type 0 where
+  pub all_seen : held.history ≡ pass.seen
+  pub all_taken : taken ≡ length pass.seen
+  pub joined : queues.awaiting ≡ false
+  pub tells : lines_told true queues.replies shown (taken_of pass taken) ≡ [] → ⊥
+
+-- the threads that run have done their orders, each with a pass that is out: these are their answers, which their queues hold as replies,
+-- and their entries are among those that the pass has seen behind what joins have told
+pub record HaveDone (queues : QueuesView) (told : List PlacedEntry) : Type 0 where
   pub answers : ℕ → List Answer
-  pub done : (j : ℕ) → Contains queues.running j → HasDone j (queue_in queues.queues j) (answers j) (entries_by j (entries_of untold))
+  pub done : (j : ℕ) → Contains queues.running j → HasDoneWith queues.passes told j (queue_in queues.queues j) (answers j)
   pub replies : queues.replies ≡ flat_map (λ j. map (reply_line j) (answers j)) queues.running
   pub all : queues.running ≡ threads_in queues.queues
 
--- the pass is the first one, and those of threads that run are out; what is kept are the first entries that the pass has seen, and, until
--- the region is closed, all of them; entries that no join has told are the owner's while no join is awaited, and else the threads that
--- run have done their orders; the totals in replies are those that were handed over; and there is room for each entry that is there, for
--- each order that waits, for the pause of a collection that was started, and for each reply
+-- thread j has done the first of its orders: these are its entries among those that were taken and that no join has told
+abbrev pub HasBegunIn : QueuesView → List Entry → ℕ → Type 0
+HasBegunIn queues untold j = (n : ℕ) × (answers : List Answer) × HasDone j (take n (queue_in queues.queues j)) answers (entries_by j untold)
+
+-- the pass is the owner's, and those of threads that run are out; what was taken are the first entries that the pass has seen, and, until
+-- the region is closed, the others name passes that are out; entries that no join has told are the owner's while no join is awaited, and
+-- else the threads that run have done their orders, or, where the region is closed, those that were taken are of their first orders;
+-- and the totals in replies are those that were handed over
 pub record IsOwned
-    (region : RegionView) (pass : PassView) (queues : QueuesView) (mirror : MirrorView) (totals : Totals) (printed shown : ℕ) (closed : Bool)
+    (region : RegionView) (pass : PassView) (queues : QueuesView) (held : Option HeldView) (totals : Totals) (taken printed shown : ℕ) (closed : Bool)
     : Type 0 where
-  pub first : IsFirst region pass
+  pub owner : IsOwnersPass region pass held
+  pub holds : (h : HeldView) → held ≡ Some h → IsHeld pass queues h taken shown
   pub outs : AreOut region pass queues
-  pub few : length mirror.entries ≤ length pass.seen
-  pub kept : mirror.entries ≡ entries_of (taken_by pass mirror)
-  pub all : closed ≡ false → length mirror.entries ≡ length pass.seen
-  pub printed_few : printed ≤ length mirror.entries
-  pub shown_few : shown ≤ length mirror.entries
+  pub few : taken ≤ length pass.seen
+  pub ahead : closed ≡ false → All (λ (p : PlacedEntry). Contains pass.out p.entry.thread) (drop taken pass.seen)
+  pub printed_few : printed ≤ taken
+  pub shown_few : shown ≤ taken
   pub none_out : queues.awaiting ≡ false → pass.out ≡ []
   pub none_run : queues.awaiting ≡ false → queues.running ≡ []
-  pub owners : queues.awaiting ≡ false → All IsOwners (entries_of (drop printed (free_history region)))
-  pub done : queues.awaiting ≡ true → HaveDone queues (drop printed (free_history region))
+  pub owners : queues.awaiting ≡ false → All IsOwners (entries_of (drop printed (taken_of pass taken)))
+  pub done : queues.awaiting ≡ true → closed ≡ false → HaveDone queues (take printed pass.seen)
+  pub begun : closed ≡ true → (j : ℕ) → Contains queues.running j → HasBegunIn queues (entries_of (drop printed (taken_of pass taken))) j
   pub told : (j o n u f : ℕ) → Contains queues.replies (L.ReplyTotals j o n u f) → AreTotals totals o n u f
-  pub room :
-      length (free_history region) + (if queues.awaiting then 0 else sum_by length queues.queues) + (if is_started (free_history region) then 1 else 0)
-      ≤ mirror.room
-  pub room_told : length queues.replies ≤ mirror.room

@@ -13,8 +13,7 @@ use Rattle.thread_queues.specs.Queues.{queue_in}
 
 -- what the owner has taken of the history; the numbers of the passes that are out; the orders that wait for each thread, which
 -- threads run, whether a join is awaited, and the totals that the threads that went last were handed; how many of the entries joins
--- have told; the lines that the last command tells before its last one, where it was a join; for how many entries room was made; and
--- whether the region was closed
+-- have told; the lines that the last command tells before its last one, where it was a join; and whether the region was closed
 pub record OwnedView : Type 0 where
   pub taken : List PlacedEntry
   pub out : List ℕ
@@ -24,7 +23,6 @@ pub record OwnedView : Type 0 where
   pub totals : Totals
   pub printed : ℕ
   pub told : List Line
-  pub room : ℕ
   pub closed : Bool
 
 -- nothing was made, and no order waits
@@ -38,7 +36,6 @@ nothing_owned = record {
   totals = record { ordinal = 0; objects = 0; used = 0; finalised = 0 };
   printed = 0;
   told = [];
-  room = 0;
   closed = false;
 }
 

@@ -1,7 +1,7 @@
 // Calls of the owner on the region (`include/cppgc/cross-thread-persistent.h`). Each makes an
 // entry, and takes those that threads have made before it, and then its own.
 
-ghost use Rattle.std.specs.Prelude.{◌≡◌, ◌<◌, ℕ, List, false, OnOk, OnErr, IfOk, length};
+ghost use Rattle.std.specs.Prelude.{◌≡◌, ◌<◌, ℕ, List, [], false, OnOk, OnErr, IfOk, length};
 ghost use Rattle.gc_graph.specs.declared.region.Op.TheVariants as O;
 ghost use Rattle.gc_graph.specs.History.{reply_of};
 ghost use Rattle.cross_thread_region.specs.declared.chronicle.PlacedEntry.{PlacedEntry};
@@ -13,21 +13,24 @@ ghost use Rattle.heap_region.specs.Calls.{HasEntered};
 ghost use Rattle.heap_region.specs.Handled.{IsHandled, LooksAgain};
 
 use crate::owned::OwnedRegion;
-use crate::taking::take_seen;
+use crate::taking::look_at_seen;
 use gc_graph::{NoMemory, Reply};
 use heap_objects::Objects;
+use std::sync::Wait;
 
 impl OwnedRegion {
     /// The slot becomes strong for the node with this number, which has this place. Want of memory
     /// is free.
-    pub fn export(
+    pub fn export<R: Wait>(
         &mut self,
+        rt: &R,
         objects: &mut Objects,
         slot: u32,
         number: u32,
         place: u32,
     ) -> Result<(), NoMemory>
         requires opened { self.old.closed ≡ false }
+        requires quiet { self.old.told ≡ [] }
         requires slot { slot < 32 }
         requires valid { AreOfValid (setup_of_objects objects.old) objects.old.nodes }
         requires handled { IsHandled objects.old.nodes self.old.taken }
@@ -39,28 +42,24 @@ impl OwnedRegion {
     {
         // A place is that of a word, and the number of words fits its type.
         let _words = objects.word_count();
-        self.region.is_legal();
-        self.mirror.make_room(1)?;
-        match self.region.export(&mut self.pass, slot, number, place) {
-            Reply::NoMemory => {
-                self.mirror.give_back(1);
-                Err(NoMemory)
-            }
+        match self.region.export(rt, &mut self.pass, slot, number, place) {
+            Reply::NoMemory => Err(NoMemory),
             _ => {
-                take_seen(&self.region, &mut self.pass, objects, &mut self.mirror);
-                self.telling = false;
+                self.taken = look_at_seen(rt, &self.region, &mut self.pass, objects, self.taken);
                 Ok(())
             }
         }
     }
 
     /// The place and the number of what the slot names. Want of memory is free.
-    pub fn import(
+    pub fn import<R: Wait>(
         &mut self,
+        rt: &R,
         objects: &mut Objects,
         slot: u32,
     ) -> Result<Option<(u32, u32)>, NoMemory>
         requires opened { self.old.closed ≡ false }
+        requires quiet { self.old.told ≡ [] }
         requires slot { slot < 32 }
         requires valid { AreOfValid (setup_of_objects objects.old) objects.old.nodes }
         requires handled { IsHandled objects.old.nodes self.old.taken }
@@ -70,17 +69,11 @@ impl OwnedRegion {
         ensures same { OnErr result (self.new ≡ self.old) }
         ensures objects { OnErr result (objects.new ≡ objects.old) }
     {
-        self.region.is_legal();
-        self.mirror.make_room(1)?;
-        let (reply, place) = self.region.import(&mut self.pass, slot);
+        let (reply, place) = self.region.import(rt, &mut self.pass, slot);
         match reply {
-            Reply::NoMemory => {
-                self.mirror.give_back(1);
-                Err(NoMemory)
-            }
+            Reply::NoMemory => Err(NoMemory),
             _ => {
-                take_seen(&self.region, &mut self.pass, objects, &mut self.mirror);
-                self.telling = false;
+                self.taken = look_at_seen(rt, &self.region, &mut self.pass, objects, self.taken);
                 Ok(target_told(reply, place))
             }
         }
@@ -88,8 +81,14 @@ impl OwnedRegion {
 
     /// The start entry of a cycle, which tells of each slot its place and 1 where it is strong, and
     /// 0 where it isn't. It takes the room for the pause's entry too. Want of memory is free.
-    pub fn start(&mut self, objects: &mut Objects, told: &mut [u32]) -> Result<(), NoMemory>
+    pub fn start<R: Wait>(
+        &mut self,
+        rt: &R,
+        objects: &mut Objects,
+        told: &mut [u32],
+    ) -> Result<(), NoMemory>
         requires opened { self.old.closed ≡ false }
+        requires quiet { self.old.told ≡ [] }
         requires slots { length told.old ≡ 32 }
         requires valid { AreOfValid (setup_of_objects objects.old) objects.old.nodes }
         requires handled { IsHandled objects.old.nodes self.old.taken }
@@ -99,16 +98,10 @@ impl OwnedRegion {
         ensures same { OnErr result (self.new ≡ self.old) }
         ensures objects { OnErr result (objects.new ≡ objects.old) }
     {
-        self.region.is_legal();
-        self.mirror.make_room(2)?;
-        match self.region.start_entry(&mut self.pass, told) {
-            Reply::NoMemory => {
-                self.mirror.give_back(2);
-                Err(NoMemory)
-            }
+        match self.region.start_entry(rt, &mut self.pass, told) {
+            Reply::NoMemory => Err(NoMemory),
             _ => {
-                take_seen(&self.region, &mut self.pass, objects, &mut self.mirror);
-                self.telling = false;
+                self.taken = look_at_seen(rt, &self.region, &mut self.pass, objects, self.taken);
                 Ok(())
             }
         }

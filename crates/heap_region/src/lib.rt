@@ -6,24 +6,24 @@
 //!
 //! The parts: `OwnedRegion`, with the owner's calls in `calls` (exports, imports and the start of a
 //! collection), the pause in `pausing`, the script's threads in `threads`, and what a join tells in
-//! `telling`. Inside, `taking` looks at the objects as entries read them and keeps the entries,
-//! which `mirror` holds. Next down are `cross_thread_region`, `thread_queues` and `heap_objects`.
+//! `telling`. Inside, `taking` looks at the objects as entries read them. Next down are
+//! `cross_thread_region`, `thread_queues` and `heap_objects`.
 //!
 //! What is proved: a call makes the owner's entry behind what threads have done until then, which
 //! is legal and orders of threads that run, with the reply of a region of one thread; then all of
 //! it is taken, and what it read from weak slots may be kept while marking goes on. Where memory is
-//! wanting nothing changes. A pause clears exactly the weak slots that name a dead node, keeps what
+//! wanting nothing is taken. A pause clears exactly the weak slots that name a dead node, keeps what
 //! strong slots named when it came, and needs no memory, because the start before it made the room.
-//! An order that waits has room for its entry. Threads that go do the orders of their queues, each
-//! its own in turn, and a join takes their entries and tells their answers and then the entries
-//! that none has told. A region that is closed has joined its threads, and keeps what was taken.
+//! Threads that go do the orders of their queues, each its own in turn, and a join takes their
+//! entries and tells their answers and then the entries that none has told, from the history that it
+//! holds until the next command. A region that is closed has joined its threads, keeps what was
+//! taken, and tells that what was taken of a thread's entries is of its first orders.
 //!
 //! What is only tested or not said: that memory suffices, and how entries of several threads
 //! follow each other.
 #![tactic(auto)]
 
 mod calls;
-mod mirror;
 mod owned;
 mod pausing;
 mod taking;

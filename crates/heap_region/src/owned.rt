@@ -1,11 +1,10 @@
 // The region of a heap, with its owner's pass, the script's threads, and what was taken of the
 // history.
 
-ghost use Rattle.std.specs.Prelude.{◌≡◌, [], IfOk, Contains, ℕ};
-ghost use Rattle.heap_region.specs.Owned.{nothing_owned, HasBegun};
+ghost use Rattle.std.specs.Prelude.{◌≡◌, [], IfOk};
+ghost use Rattle.heap_region.specs.Owned.{nothing_owned};
 
-use crate::mirror::Mirror;
-use cross_thread_region::{Histories, Pass, Region};
+use cross_thread_region::{HeldHistory, Histories, Pass, Region};
 use gc_graph::NoMemory;
 use ghost_values::GhostValue;
 use std::alloc::Global;
@@ -16,45 +15,45 @@ use thread_queues::{ThreadQueues, Totals};
 const SLOTS: u32 = 32;
 
 /// The region of a heap. Commands of the owner take its history in pieces, and joins tell the
-/// entries that were taken.
+/// entries that were taken. Only the thread that owns the heap calls it.
 #[derive(Drop)]
 pub struct OwnedRegion {
     pub(crate) region: Region,
     pub(crate) pass: Pass,
     pub(crate) threads: ThreadQueues,
-    /// The entries that were taken.
-    pub(crate) mirror: Mirror,
     /// What the threads that went last were handed.
     pub(crate) totals: Totals,
+    /// How many entries were taken, of those that the pass has seen.
+    pub(crate) taken: u32,
     /// How many entries joins have told, and how many they had before the last one.
-    pub(crate) printed: u64,
-    pub(crate) shown: u64,
-    /// Whether the last command was a join.
-    pub(crate) telling: bool,
+    pub(crate) printed: u32,
+    pub(crate) shown: u32,
+    /// The history, from a join that tells lines to the next command: no thread runs then.
+    pub(crate) held: Option<HeldHistory>,
     pub(crate) closed: bool,
 }
 
 impl Model for OwnedRegion {
-    ghost use Rattle.heap_region.specs.Inside.{IsOwned, lines_told, taken_by};
+    ghost use Rattle.heap_region.specs.Inside.{IsOwned, lines_told, taken_of};
+    ghost use Rattle.std.specs.Prelude.{is_some};
     ghost use Rattle.heap_region.specs.Owned.{OwnedView};
 
     ghost Value = { OwnedView };
 
     ghost view = { λ r. record {
-      taken = taken_by r.pass r.mirror;
+      taken = taken_of r.pass r.taken;
       out = r.pass.out;
       queues = r.threads.queues;
       running = r.threads.running;
       awaiting = r.threads.awaiting;
       totals = r.totals;
       printed = r.printed;
-      told = lines_told r.telling r.threads.replies r.shown (taken_by r.pass r.mirror);
-      room = r.mirror.room;
+      told = lines_told (is_some r.held) r.threads.replies r.shown (taken_of r.pass r.taken);
       closed = r.closed;
     } };
 
-    ghost invariant = { λ r. IsOwned r.region r.pass r.threads r.mirror r.totals r.printed r.shown
-        r.closed };
+    ghost invariant = { λ r. IsOwned r.region r.pass r.threads r.held r.totals r.taken r.printed
+        r.shown r.closed };
 }
 
 impl OwnedRegion {
@@ -68,16 +67,16 @@ impl OwnedRegion {
             region,
             pass,
             threads,
-            mirror: Mirror::new(alloc),
             totals: Totals {
                 ordinal: 0,
                 objects: 0,
                 used: 0,
                 finalised: 0,
             },
+            taken: 0,
             printed: 0,
             shown: 0,
-            telling: false,
+            held: None,
             closed: false,
         })
     }
@@ -86,7 +85,20 @@ impl OwnedRegion {
     pub fn begin(&mut self)
         ensures { self.new ≡ record self.old { told = [] } }
     {
-        self.telling = false;
+        // Most commands find nothing held, and move nothing.
+        if self.held.is_some() {
+            self.end_turn();
+        }
+    }
+
+    /// The history that a join holds is given back.
+    #[inline(never)]
+    fn end_turn(&mut self)
+        ensures { self.new ≡ record self.old { told = [] } }
+    {
+        if let Some(held) = self.held.take() {
+            self.region.end_look(&mut self.pass, held);
+        }
     }
 
     /// What was taken of the history, for contracts alone.
@@ -94,12 +106,5 @@ impl OwnedRegion {
         ensures { result.value ≡ self.now.taken }
     {
         GhostValue::chosen(self)
-    }
-
-    /// Threads that run have begun their orders. Whoever calls this has the law.
-    pub fn orders_are_begun(&self)
-        ensures { (j : ℕ) → Contains self.now.running j → HasBegun self.now j }
-    {
-        let _ = &self.region;
     }
 }

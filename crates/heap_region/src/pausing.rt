@@ -21,16 +21,16 @@ ghost use Rattle.heap_region.specs.Handled.{IsHandled};
 ghost use Rattle.heap_region.specs.Owned.{found_of};
 
 use crate::owned::OwnedRegion;
-use crate::taking::keep_seen;
 use callback_table::{CallbackTable, Registry};
 use heap_objects::{Finished, Objects};
 use persistent_slots::Slots;
+use std::sync::Wait;
 use std::thread::Threads;
 
 impl OwnedRegion {
     /// Finishes marking, with the pause of `Objects::finish`, which makes its entry behind what
     /// threads have done until then. All of it is taken.
-    pub fn pause<'a, R: Threads>(
+    pub fn pause<'a, R: Threads + Wait>(
         &mut self,
         rt: &R,
         objects: &mut Objects,
@@ -42,6 +42,7 @@ impl OwnedRegion {
         callbacks: &'a CallbackTable,
     ) -> Finished
         requires opened { self.old.closed ≡ false }
+        requires quiet { self.old.told ≡ [] }
         requires started { is_started self.old.taken ≡ true }
         requires handled { IsHandled objects.old.nodes self.old.taken }
         requires valid { AreOfValid (setup_of_objects objects.old) objects.old.nodes }
@@ -55,7 +56,6 @@ impl OwnedRegion {
         requires registered { All (IsRegistered objects.old.nodes (length objects.old.callbacks))
             registry.old.entries }
         ensures entry { HasPauseEntry objects.new.nodes self.old self.new }
-        ensures room { self.new.room ≡ self.old.room }
         ensures paused { (slots : List (Option ℕ)) (may : List Bool)
             → NamePlaces objects.old.nodes slots strong.now → HasMarking may objects.old
             → IsPaused objects.old.callbacks
@@ -81,20 +81,20 @@ impl OwnedRegion {
             result.pause.walked }
         ensures setup { setup_of_objects objects.new ≡ setup_of_objects objects.old }
     {
-        self.region.is_legal();
+        self.pass.is_legal();
         let finished = objects.finish(
             rt,
             strong,
             weak,
-            &mut self.region,
+            &self.region,
             &mut self.pass,
             stack,
             precise,
             registry,
             callbacks,
         );
-        keep_seen(&self.region, &mut self.pass, &mut self.mirror);
-        self.telling = false;
+        self.pass.is_legal();
+        self.taken = self.region.entries(&mut self.pass) as u32;
         finished
     }
 }

@@ -11,9 +11,10 @@ ghost use Rattle.heap_region.specs.Handled.{IsHandled, LooksAgain};
 ghost use Rattle.heap_region.specs.Owned.{HasBegun};
 
 use crate::owned::OwnedRegion;
-use crate::taking::take_seen;
+use crate::taking::look_again;
 use gc_graph::{NoMemory, Order};
 use heap_objects::Objects;
+use std::sync::Wait;
 use thread_queues::Totals;
 
 impl OwnedRegion {
@@ -24,38 +25,29 @@ impl OwnedRegion {
         requires first { 1 ≤ thread }
         requires last { thread ≤ 8 }
         requires allowed { IsAllowedOrder order }
-        ensures queued { OnOk result (self.new ≡ record self.old {
-          queues = with_order self.old.queues thread order;
-          room = self.old.room + 1;
-        }) }
+        ensures queued { OnOk result (self.new
+            ≡ record self.old { queues = with_order self.old.queues thread order }) }
         ensures same { OnErr result (self.new ≡ self.old) }
     {
-        self.mirror.make_room(1)?;
-        match self.threads.queue(thread, order) {
-            Ok(()) => Ok(()),
-            Err(NoMemory) => {
-                self.mirror.give_back(1);
-                Err(NoMemory)
-            }
-        }
+        self.threads.queue(thread, order)?;
+        Ok(())
     }
 
-    /// The threads whose queues aren't empty go, and what a join told is told no more. Answers how
-    /// many threads go.
-    pub fn go(&mut self, totals: Totals) -> u32
+    /// The threads whose queues aren't empty go. Answers how many they are.
+    pub fn go<R: Wait>(&mut self, rt: &R, totals: Totals) -> u32
         requires opened { self.old.closed ≡ false }
+        requires quiet { self.old.told ≡ [] }
         requires joined { self.old.awaiting ≡ false }
         ensures count { result ≡ length (threads_in self.old.queues) }
         ensures went { HaveGoneOut self.old totals self.new }
     {
         self.totals = totals;
-        self.telling = false;
-        self.threads.go(&mut self.region, &mut self.pass, totals)
+        self.threads.go(rt, &self.region, &mut self.pass, totals)
     }
 
     /// The threads that went are joined, and what they have done is taken, and told. Answers how
     /// many they were.
-    pub fn join(&mut self, objects: &mut Objects) -> u32
+    pub fn join<R: Wait>(&mut self, rt: &R, objects: &mut Objects) -> u32
         requires opened { self.old.closed ≡ false }
         requires awaited { self.old.awaiting ≡ true }
         requires valid { AreOfValid (setup_of_objects objects.old) objects.old.nodes }
@@ -63,21 +55,34 @@ impl OwnedRegion {
         ensures joined { HasJoined self.old self.new result }
         ensures looked { LooksAgain objects.old self.old self.new objects.new }
     {
-        self.region.is_legal();
         let count = self.threads.join(&self.region, &mut self.pass);
-        take_seen(&self.region, &mut self.pass, objects, &mut self.mirror);
+        self.pass.is_legal();
+        let held = self.region.look(rt, &mut self.pass);
+        let taken = held.len();
+        look_again(&held, objects, self.taken, taken);
+        let lines = self.threads.reply_count() + (taken - self.printed);
         self.shown = self.printed;
-        self.printed = self.mirror.len();
-        self.telling = true;
+        self.taken = taken;
+        self.printed = taken;
+        // The turn is kept while there are lines to tell.
+        if lines > 0 {
+            self.held = Some(held);
+        } else {
+            self.region.end_look(&mut self.pass, held);
+        }
         count
     }
 
-    /// Joins the threads that run, if some do, and takes nothing of what they have done.
+    /// Joins the threads that run, if some do, and takes nothing of what they have done. Of their
+    /// entries those that were taken are the first ones of their orders.
     pub fn close(&mut self)
         ensures begun { (j : ℕ) → Contains self.old.running j → HasBegun self.old j }
         ensures closed { self.new ≡ record self.old { out = []; closed = true } }
     {
-        self.threads.dismiss(&self.region, &mut self.pass);
+        // While a join holds the history no thread runs.
+        if self.held.is_none() {
+            self.threads.dismiss(&self.region, &mut self.pass);
+        }
         self.closed = true;
     }
 }

@@ -31,6 +31,7 @@ use crate::slot_lists;
 use callback_table::{CallbackTable, Registry};
 use gc_graph::Want;
 use heap_region::{Finished, Objects, OwnedRegion};
+use std::sync::Wait;
 use std::thread::Threads;
 
 impl Handles {
@@ -69,7 +70,7 @@ impl Handles {
     /// unless the region's slots or the stack's words reach it, what is weak and names a condemned
     /// object becomes null, and the prefinalizers of these run. Markers that run are stopped and joined
     /// first.
-    pub fn finish<R: Threads>(
+    pub fn finish<R: Threads + Wait>(
         &mut self,
         rt: &R,
         region: &mut OwnedRegion,
@@ -91,6 +92,7 @@ impl Handles {
         requires registered { All (IsRegistered objects.old.nodes (length objects.old.callbacks))
             registry.old.entries }
         requires opened { region.old.closed ≡ false }
+        requires quiet { region.old.told ≡ [] }
         requires shared { IsHandled objects.old.nodes region.old.taken }
         requires started { is_started region.old.taken ≡ true }
         ensures paused { (may : List Bool) → HasMarking may objects.old
@@ -107,7 +109,6 @@ impl Handles {
           weak = map (clear_slot (is_dead_at objects.new.nodes)) self.old.weak;
         } }
         ensures region { HasPauseEntry objects.new.nodes region.old region.new }
-        ensures room { region.new.room ≡ region.old.room }
         ensures rest { ObjectsAreAtRest objects.new }
         ensures judged { BodiesAreJudged objects.new.seat }
         ensures kept { result.pause.kept ≡ live_count objects.new.nodes }

@@ -4,10 +4,11 @@
 //! stand in a crate of their own, so that no other crate waits for them.
 //!
 //! The parts, each named for what it tries. Of graphs, header words and types: `graphs`, `headers`,
-//! `types`. Of slots and callbacks: `slots`, `callbacks`. Of the region: `region_slots`,
-//! `region_pauses`, `region_passes`, `region_reads`, and `script_threads`, which tries the threads of
-//! a script that use it. Of marking lists: `lists`, `stealing` (each call by one thread) and
-//! `stealing_threads` (an owner and two shares, each on a thread of its own).
+//! `types`. Of slots and callbacks: `slots`, `callbacks`. Of the region's lock: `lock_turns`,
+//! `lock_passes`. Of the region: `region_slots`, `region_pauses`, `region_passes`, `region_reads`,
+//! whose calls are those of `region_calls`, and `script_threads`, which tries the threads of a script
+//! that use it. Of marking lists: `lists`, `stealing` (each call by one thread) and `stealing_threads`
+//! (an owner and two shares, each on a thread of its own).
 //!
 //! What is proved: that the tests are safe and call only what they may.
 //!
@@ -26,6 +27,8 @@ mod lists;
 mod lock_passes;
 #[cfg(test)]
 mod lock_turns;
+#[cfg(test)]
+mod region_calls;
 #[cfg(test)]
 mod region_passes;
 #[cfg(test)]

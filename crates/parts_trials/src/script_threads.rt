@@ -3,9 +3,11 @@
 ghost use Rattle.std.specs.Prelude.{◌≡◌, IfOk, OnOk, [], false, true};
 ghost use Rattle.thread_queues.specs.Going.{IsFirst};
 
+use crate::region_calls::export;
 use cross_thread_region::{Pass, Region};
 use gc_graph::{Entry, Line, NoMemory, Op, Order, Reply};
 use std::alloc::Global;
+use std::sync::Wait;
 use thread_queues::{ThreadQueues, Totals};
 
 const EARLY: Totals = Totals {
@@ -36,13 +38,13 @@ const ALL: &str = "\
 ";
 
 /// A region whose slot 0 is strong for node 3, with its first pass, and queues without orders.
-fn made(alloc: Global) -> Result<(Region, Pass, ThreadQueues), NoMemory>
+fn made<R: Wait>(rt: &R, alloc: Global) -> Result<(Region, Pass, ThreadQueues), NoMemory>
     ensures first { IfOk result (λ made. IsFirst made.0 made.1) }
     ensures alone { IfOk result (λ made. made.1.out ≡ []) }
     ensures joined { IfOk result (λ made. made.2.awaiting ≡ false) }
 {
-    let (mut region, mut pass) = Region::new(alloc, 32)?;
-    region.export(&mut pass, 0, 3, 30);
+    let (region, mut pass) = Region::new(alloc, 32)?;
+    export(rt, &region, &mut pass, 0, 3, 30);
     let queues = ThreadQueues::new(alloc)?;
     Ok((region, pass, queues))
 }
@@ -110,12 +112,12 @@ fn number_at(line: &str, place: usize) -> u64 {
 }
 
 /// Whether entry 6 is that of thread 4, which cleared slot 0 after the export and five others.
-fn fourth_cleared(region: &Region, pass: &mut Pass) -> bool
+fn fourth_cleared<R: Wait>(rt: &R, region: &Region, pass: &mut Pass) -> bool
     requires { IsFirst region.now pass.old }
 {
     region.entries(pass) == 9
         && matches!(
-            region.entry(pass, 5),
+            region.entry(rt, pass, 5),
             Entry {
                 thread: 4,
                 op: Op::Clear { slot: 0 },
@@ -124,46 +126,49 @@ fn fourth_cleared(region: &Region, pass: &mut Pass) -> bool
         )
 }
 
-fn answers_all(region: &mut Region, pass: &mut Pass, queues: &mut ThreadQueues) -> bool
-    requires first { IsFirst region.old pass.old }
+fn answers_all<R: Wait>(rt: &R, region: &Region, pass: &mut Pass, queues: &mut ThreadQueues) -> bool
+    requires first { IsFirst region.now pass.old }
     requires alone { pass.old.out ≡ [] }
     requires joined { queues.old.awaiting ≡ false }
 {
     if queue_for_all(queues).is_err() {
         return false;
     }
-    let went = queues.go(region, pass, EARLY);
+    let went = queues.go(rt, region, pass, EARLY);
     let told = are_told(queues, ALL);
     let joined = queues.join(region, pass) == 8;
-    went == 8 && told && joined && fourth_cleared(region, pass)
+    went == 8 && told && joined && fourth_cleared(rt, region, pass)
 }
 
-fn all_are_answered(alloc: Global) -> bool {
-    match made(alloc) {
-        Ok((mut region, mut pass, mut queues)) => {
-            answers_all(&mut region, &mut pass, &mut queues)
-        }
+fn all_are_answered<R: Wait>(rt: &R, alloc: Global) -> bool {
+    match made(rt, alloc) {
+        Ok((region, mut pass, mut queues)) => { answers_all(rt, &region, &mut pass, &mut queues) }
         Err(_) => false,
     }
 }
 
 #[test]
 fn threads_are_answered_one_after_the_other(rt: HostRuntime) {
-    assert!(rt; all_are_answered(rt.alloc()));
+    assert!(rt; all_are_answered(&rt, rt.alloc()));
 }
 
 /// A section of threads 2 and 5.
-fn two_go(region: &mut Region, pass: &mut Pass, queues: &mut ThreadQueues) -> Result<bool, NoMemory>
-    requires first { IsFirst region.old pass.old }
+fn two_go<R: Wait>(
+    rt: &R,
+    region: &Region,
+    pass: &mut Pass,
+    queues: &mut ThreadQueues,
+) -> Result<bool, NoMemory>
+    requires first { IsFirst region.now pass.old }
     requires alone { pass.old.out ≡ [] }
     requires joined { queues.old.awaiting ≡ false }
-    ensures first { IsFirst region.new pass.new }
+    ensures first { IsFirst region.now pass.new }
     ensures alone { pass.new.out ≡ [] }
     ensures joined { OnOk result (queues.new.awaiting ≡ false) }
 {
     queues.queue(5, Order::Clear { slot: 0 })?;
     queues.queue(2, Order::Totals)?;
-    let two = queues.go(region, pass, EARLY) == 2;
+    let two = queues.go(rt, region, pass, EARLY) == 2;
     let told = are_told(queues, "2 totals 12 3 9 2\n5 done\n");
     let awaits = queues.awaits();
     let joined = queues.join(region, pass) == 2;
@@ -171,58 +176,57 @@ fn two_go(region: &mut Region, pass: &mut Pass, queues: &mut ThreadQueues) -> Re
 }
 
 /// After it, a section of thread 2 alone.
-fn one_goes(
-    region: &mut Region,
+fn one_goes<R: Wait>(
+    rt: &R,
+    region: &Region,
     pass: &mut Pass,
     queues: &mut ThreadQueues,
 ) -> Result<bool, NoMemory>
-    requires first { IsFirst region.old pass.old }
+    requires first { IsFirst region.now pass.old }
     requires alone { pass.old.out ≡ [] }
     requires joined { queues.old.awaiting ≡ false }
-    ensures first { IsFirst region.new pass.new }
+    ensures first { IsFirst region.now pass.new }
     ensures alone { pass.new.out ≡ [] }
     ensures joined { OnOk result (queues.new.awaiting ≡ false) }
 {
     queues.queue(2, Order::Upgrade { from: 0, into: 1 })?;
     queues.queue(2, Order::Totals)?;
-    let one = queues.go(region, pass, LATE) == 1;
+    let one = queues.go(rt, region, pass, LATE) == 1;
     let told = are_told(queues, "2 null\n2 totals 20 1 4 4\n");
     let joined = queues.join(region, pass) == 1;
     Ok(one && told && joined)
 }
 
 /// And one of none.
-fn none_goes(region: &mut Region, pass: &mut Pass, queues: &mut ThreadQueues) -> bool
-    requires first { IsFirst region.old pass.old }
+fn none_goes<R: Wait>(rt: &R, region: &Region, pass: &mut Pass, queues: &mut ThreadQueues) -> bool
+    requires first { IsFirst region.now pass.old }
     requires alone { pass.old.out ≡ [] }
     requires joined { queues.old.awaiting ≡ false }
 {
-    let none = queues.go(region, pass, LATE) == 0;
+    let none = queues.go(rt, region, pass, LATE) == 0;
     let silent = queues.reply_count() == 0;
     let still = queues.join(region, pass) == 0;
     none && silent && still && !queues.awaits()
 }
 
-fn go_in_turn(region: &mut Region, pass: &mut Pass, queues: &mut ThreadQueues) -> bool
-    requires first { IsFirst region.old pass.old }
+fn go_in_turn<R: Wait>(rt: &R, region: &Region, pass: &mut Pass, queues: &mut ThreadQueues) -> bool
+    requires first { IsFirst region.now pass.old }
     requires alone { pass.old.out ≡ [] }
     requires joined { queues.old.awaiting ≡ false }
 {
-    matches!(two_go(region, pass, queues), Ok(true))
-        && matches!(one_goes(region, pass, queues), Ok(true))
-        && none_goes(region, pass, queues)
+    matches!(two_go(rt, region, pass, queues), Ok(true))
+        && matches!(one_goes(rt, region, pass, queues), Ok(true))
+        && none_goes(rt, region, pass, queues)
 }
 
-fn sections(alloc: Global) -> bool {
-    match made(alloc) {
-        Ok((mut region, mut pass, mut queues)) => {
-            go_in_turn(&mut region, &mut pass, &mut queues)
-        }
+fn sections<R: Wait>(rt: &R, alloc: Global) -> bool {
+    match made(rt, alloc) {
+        Ok((region, mut pass, mut queues)) => { go_in_turn(rt, &region, &mut pass, &mut queues) }
         Err(_) => false,
     }
 }
 
 #[test]
 fn sections_are_told_each_for_itself(rt: HostRuntime) {
-    assert!(rt; sections(rt.alloc()));
+    assert!(rt; sections(&rt, rt.alloc()));
 }

@@ -5,8 +5,8 @@ use super::rows::number_at;
 use super::runs::{STEADY, run_of};
 use script_run::Gate;
 use std::alloc::Global;
-use std::sync::Arc;
 use std::sync::atomic::{AtomicU64, Ordering};
+use std::sync::{Arc, Wait};
 use std::thread;
 use std::thread::Threads;
 
@@ -111,14 +111,19 @@ fn is_lawful(held: &Held, report: &str) -> bool {
 }
 
 /// Whether the run behind the gate is done, and its report lawful.
-fn is_right<R: Threads>(rt: &R, alloc: Global, held: &Held, gate: HeldOnce) -> bool {
+fn is_right<R: Threads + Wait>(rt: &R, alloc: Global, held: &Held, gate: HeldOnce) -> bool {
     match Arc::new(alloc, gate) {
         Ok(gate) => is_lawful_behind(rt, alloc, held, &gate),
         Err(_) => false,
     }
 }
 
-fn is_lawful_behind<R: Threads>(rt: &R, alloc: Global, held: &Held, gate: &Arc<HeldOnce>) -> bool {
+fn is_lawful_behind<R: Threads + Wait>(
+    rt: &R,
+    alloc: Global,
+    held: &Held,
+    gate: &Arc<HeldOnce>,
+) -> bool {
     match run_of(alloc, held.words, held.script, STEADY) {
         Ok(mut run) => is_lawful(held, run.report_behind(rt, alloc, gate)),
         Err(_) => false,

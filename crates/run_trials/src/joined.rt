@@ -4,8 +4,8 @@ use super::runs::{Devices, STEADY, run_of};
 use callback_table::CallbackTable;
 use script_run::{Gate, Status};
 use std::alloc::{AllocError, Global};
-use std::sync::Arc;
 use std::sync::atomic::{AtomicU64, Ordering};
+use std::sync::{Arc, Wait};
 use std::thread;
 use std::thread::Threads;
 
@@ -88,7 +88,7 @@ fn long_script(alloc: Global) -> Result<Vec<u8>, AllocError> {
 }
 
 /// How the run of the script ends behind the gate, where the first write fails.
-fn status_of<R: Threads>(
+fn status_of<R: Threads + Wait>(
     rt: &R,
     alloc: Global,
     script: &[u8],
@@ -108,7 +108,7 @@ fn status_of<R: Threads>(
 }
 
 /// Whether the run ends with a write fault, the marker has passed, and it doesn't pass any more.
-fn is_joined_behind<R: Threads>(
+fn is_joined_behind<R: Threads + Wait>(
     rt: &R,
     alloc: Global,
     script: &[u8],
@@ -122,7 +122,7 @@ fn is_joined_behind<R: Threads>(
         && gate.late.load(Ordering::SeqCst) == 0
 }
 
-fn is_joined<R: Threads>(rt: &R, alloc: Global) -> bool {
+fn is_joined<R: Threads + Wait>(rt: &R, alloc: Global) -> bool {
     let Ok(script) = long_script(alloc) else {
         return false;
     };

@@ -5,6 +5,7 @@ use super::rows::number_at;
 use super::runs::{Case, Devices, comes_out};
 use script_run::Status;
 use std::alloc::{AllocError, Global};
+use std::sync::Wait;
 use std::thread::Threads;
 
 // How many bytes go a call; which call fails, or 0; the sink's room; how many bytes are written: no
@@ -118,7 +119,7 @@ fn add_both(script: &mut Vec<u8>, report: &mut Vec<u8>, long: &Long) -> Result<(
 
 /// The number of the first row of which something else comes, counted from 1; 0 where memory is
 /// wanting.
-fn first_wrong<R: Threads>(rt: &R, alloc: Global, long: &Long, rows: &str) -> Option<u32> {
+fn first_wrong<R: Threads + Wait>(rt: &R, alloc: Global, long: &Long, rows: &str) -> Option<u32> {
     let mut script = Vec::new(alloc);
     let mut report = Vec::new(alloc);
     if add_both(&mut script, &mut report, long).is_err() {
@@ -132,7 +133,12 @@ fn first_wrong<R: Threads>(rt: &R, alloc: Global, long: &Long, rows: &str) -> Op
     first_wrong_row(rt, alloc, case, rows)
 }
 
-fn first_wrong_row<R: Threads>(rt: &R, alloc: Global, case: Case<'_>, rows: &str) -> Option<u32> {
+fn first_wrong_row<R: Threads + Wait>(
+    rt: &R,
+    alloc: Global,
+    case: Case<'_>,
+    rows: &str,
+) -> Option<u32> {
     for (row, number) in rows.lines().zip(1u32..) {
         if !is_right(rt, alloc, case, row) {
             return Some(number);
@@ -141,7 +147,7 @@ fn first_wrong_row<R: Threads>(rt: &R, alloc: Global, case: Case<'_>, rows: &str
     None
 }
 
-fn is_right<R: Threads>(rt: &R, alloc: Global, case: Case<'_>, row: &str) -> bool {
+fn is_right<R: Threads + Wait>(rt: &R, alloc: Global, case: Case<'_>, row: &str) -> bool {
     let devices = Devices {
         most: (number_at(row, 0) as usize).max(1),
         bad_read: 0,

@@ -3,6 +3,7 @@
 use super::runs::{STEADY, run_of};
 use script_run::Status;
 use std::alloc::Global;
+use std::sync::Wait;
 use std::thread::Threads;
 
 // The lines of a script whose prefinalizers act on an object that is kept. After the bar stands for each
@@ -27,7 +28,7 @@ sweep all|222244330
 ";
 
 /// Whether the run of the script ends so, and has written something just where it is done.
-fn comes_to<R: Threads>(rt: &R, alloc: Global, script: &[u8], status: Status) -> bool {
+fn comes_to<R: Threads + Wait>(rt: &R, alloc: Global, script: &[u8], status: Status) -> bool {
     match run_of(alloc, "--pages 4 --page-words 256", script, STEADY) {
         Ok(mut run) => run.ends_so(rt, alloc, status)
             && run.has_written() == (status == Status::Done),
@@ -48,7 +49,13 @@ fn status_of(line: u32, reason: u8) -> Status {
 
 /// Whether the script comes to what the row says after each byte that it gets, and is done after the end
 /// of the line.
-fn is_right<R: Threads>(rt: &R, alloc: Global, script: &mut Vec<u8>, line: u32, row: &str) -> bool {
+fn is_right<R: Threads + Wait>(
+    rt: &R,
+    alloc: Global,
+    script: &mut Vec<u8>,
+    line: u32,
+    row: &str,
+) -> bool {
     let (text, reasons) = row.split_once('|').unwrap_or(("", ""));
     for (byte, reason) in text.as_bytes().iter().zip(reasons.as_bytes()) {
         if script.push(*byte).is_err() || !comes_to(rt, alloc, script, status_of(line, *reason)) {
@@ -61,7 +68,7 @@ fn is_right<R: Threads>(rt: &R, alloc: Global, script: &mut Vec<u8>, line: u32, 
 }
 
 /// The first line of which something else comes.
-fn first_wrong<R: Threads>(rt: &R, alloc: Global) -> Option<u32> {
+fn first_wrong<R: Threads + Wait>(rt: &R, alloc: Global) -> Option<u32> {
     let mut script = Vec::new(alloc);
     for (row, line) in LINES.lines().zip(1u32..) {
         if !is_right(rt, alloc, &mut script, line, row) {

@@ -7,7 +7,7 @@ use heap_script::{ListSink, ListSource, NoMemory};
 use script_run::{Gate, Status, run, run_program};
 use std::alloc::Global;
 use std::str;
-use std::sync::Arc;
+use std::sync::{Arc, Wait};
 use std::thread::Threads;
 
 /// How devices behave: they move at most so many bytes a call, and one call each fails, or none
@@ -94,7 +94,7 @@ fn sink_of(alloc: Global, devices: Devices) -> Result<ListSink, NoMemory>
 
 /// Whether the run of the case ends so and has written so many bytes of its report, and a heap is
 /// kept exactly where it is done.
-pub(crate) fn comes_out<R: Threads>(
+pub(crate) fn comes_out<R: Threads + Wait>(
     rt: &R,
     alloc: Global,
     case: Case<'_>,
@@ -118,7 +118,12 @@ pub(crate) fn is_start(bytes: &[u8], report: &[u8], count: usize) -> bool {
 
 impl Run {
     /// Whether the run ends so, and keeps its heap exactly where it is done.
-    pub(crate) fn ends_so<R: Threads>(&mut self, rt: &R, alloc: Global, status: Status) -> bool {
+    pub(crate) fn ends_so<R: Threads + Wait>(
+        &mut self,
+        rt: &R,
+        alloc: Global,
+        status: Status,
+    ) -> bool {
         match run_program(rt, alloc, &self.words, &mut self.source, &mut self.sink) {
             Ok(ran) => ran.status == status && ran.is_kept == (status == Status::Done),
             Err(_) => false,
@@ -130,7 +135,7 @@ impl Run {
     }
 
     /// How the run behind the gate ends.
-    pub(crate) fn status_behind<R: Threads, G: Gate + Send + Sync + 'static>(
+    pub(crate) fn status_behind<R: Threads + Wait, G: Gate + Send + Sync + 'static>(
         &mut self,
         rt: &R,
         alloc: Global,
@@ -152,7 +157,7 @@ impl Run {
 
     /// What the run behind the gate, which has no callbacks, has written, where it is done; of
     /// another run nothing.
-    pub(crate) fn report_behind<R: Threads, G: Gate + Send + Sync + 'static>(
+    pub(crate) fn report_behind<R: Threads + Wait, G: Gate + Send + Sync + 'static>(
         &mut self,
         rt: &R,
         alloc: Global,
@@ -166,7 +171,7 @@ impl Run {
 }
 
 /// Whether the run behind the gate is done, and has written one of the reports that bars part.
-pub(crate) fn writes_one_of<R: Threads, G: Gate + Send + Sync + 'static>(
+pub(crate) fn writes_one_of<R: Threads + Wait, G: Gate + Send + Sync + 'static>(
     rt: &R,
     alloc: Global,
     words: &str,

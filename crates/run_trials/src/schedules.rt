@@ -4,7 +4,7 @@ use super::drawn::Drawn;
 use super::lawful::{Trial, is_lawful};
 use super::runs::{STEADY, run_of, writes_one_of};
 use std::alloc::Global;
-use std::sync::Arc;
+use std::sync::{Arc, Wait};
 use std::thread;
 use std::thread::Threads;
 
@@ -127,14 +127,20 @@ gc now precise\nthreads join\ngc now precise\nsweep all\n",
 };
 
 /// Whether the run of this seed is done, and its report is lawful.
-fn is_right<R: Threads>(rt: &R, alloc: Global, words: &str, seed: u32, trial: &Trial) -> bool {
+fn is_right<R: Threads + Wait>(
+    rt: &R,
+    alloc: Global,
+    words: &str,
+    seed: u32,
+    trial: &Trial,
+) -> bool {
     match Arc::new(alloc, Drawn::new(u64::from(seed))) {
         Ok(gate) => is_lawful_behind(rt, alloc, words, trial, &gate),
         Err(_) => false,
     }
 }
 
-fn is_lawful_behind<R: Threads>(
+fn is_lawful_behind<R: Threads + Wait>(
     rt: &R,
     alloc: Global,
     words: &str,
@@ -153,7 +159,7 @@ fn words_at(seed: u32) -> &'static str {
 }
 
 /// The first seed whose run isn't as it has to be.
-fn first_wrong<R: Threads>(rt: &R, alloc: Global, trial: &Trial) -> Option<u32> {
+fn first_wrong<R: Threads + Wait>(rt: &R, alloc: Global, trial: &Trial) -> Option<u32> {
     for seed in 0..RUNS {
         if !is_right(rt, alloc, words_at(seed), seed, trial) {
             return Some(seed);
@@ -189,7 +195,7 @@ fn weak_handles_read_beside_markers_are_lawful(rt: HostRuntime) {
 
 /// The first seed of which two runs at once, on threads of their own and with two markers each, aren't
 /// both as they have to be.
-fn first_wrong_of_two<R: Threads + Sync>(rt: &R, alloc: Global) -> Option<u32> {
+fn first_wrong_of_two<R: Threads + Wait + Sync>(rt: &R, alloc: Global) -> Option<u32> {
     let words = words_at(1);
     for seed in 0..RUNS {
         let (one, other) = thread::join(
@@ -210,7 +216,7 @@ fn two_heaps_have_markers_at_once(rt: HostRuntime) {
 }
 
 /// Whether the run of this seed writes what the script has to.
-fn is_settled<R: Threads>(rt: &R, alloc: Global, seed: u32, settled: &Settled) -> bool {
+fn is_settled<R: Threads + Wait>(rt: &R, alloc: Global, seed: u32, settled: &Settled) -> bool {
     match Arc::new(alloc, Drawn::new(u64::from(seed))) {
         Ok(gate) => writes_one_of(
             rt,
@@ -225,7 +231,7 @@ fn is_settled<R: Threads>(rt: &R, alloc: Global, seed: u32, settled: &Settled) -
 }
 
 /// The first seed whose run writes something else.
-fn first_unsettled<R: Threads>(rt: &R, alloc: Global, settled: &Settled) -> Option<u32> {
+fn first_unsettled<R: Threads + Wait>(rt: &R, alloc: Global, settled: &Settled) -> Option<u32> {
     for seed in 0..RUNS {
         if !is_settled(rt, alloc, seed, settled) {
             return Some(seed);

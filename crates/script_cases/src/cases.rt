@@ -5,6 +5,7 @@ use heap_script::{ListSink, ListSource, NoMemory, read_whole};
 use script_run::{Ran, Status, run_program};
 use std::alloc::Global;
 use std::io::ErrorKind;
+use std::sync::Wait;
 use std::thread::Threads;
 use std::{fmt, fs, io};
 
@@ -55,7 +56,11 @@ struct Trial {
 }
 
 /// How the case of this name comes out, whose heap starts no thread unless it has markers.
-pub(crate) fn tried<R: Threads>(rt: &HostRuntime, threads: &R, name: &str) -> io::Result<Verdict> {
+pub(crate) fn tried<R: Threads + Wait>(
+    rt: &HostRuntime,
+    threads: &R,
+    name: &str,
+) -> io::Result<Verdict> {
     let words = words_of(rt, name)?;
     let script = script_of(rt, name)?;
     let length = script.len();
@@ -113,7 +118,7 @@ fn wanted_of(rt: &HostRuntime, name: &str) -> io::Result<Wanted> {
     }
 }
 
-fn trial_of<R: Threads>(
+fn trial_of<R: Threads + Wait>(
     threads: &R,
     alloc: Global,
     words: &[String],
@@ -126,7 +131,7 @@ fn trial_of<R: Threads>(
 }
 
 /// Runs a script between devices in memory that don't fail.
-fn run_of<R: Threads>(
+fn run_of<R: Threads + Wait>(
     threads: &R,
     alloc: Global,
     words: &[String],

@@ -12,7 +12,7 @@ use callback_table::{Action, ActionKind, Callback, CallbackTable};
 use heap_engine::FreeGate;
 use heap_script::{NoMemory, Sink, Source};
 use std::alloc::Global;
-use std::sync::Arc;
+use std::sync::{Arc, Wait};
 use std::thread::Threads;
 
 /// How a run ended, and whether its heap was kept.
@@ -24,7 +24,7 @@ pub struct Ran {
 
 /// Runs the script of the source with the five callbacks of the program, and holds nobody at the gate.
 /// Want of memory is free.
-pub fn run_program<R: Threads, S: Source, K: Sink>(
+pub fn run_program<R: Threads + Wait, S: Source, K: Sink>(
     rt: &R,
     alloc: Global,
     words: &[String],
@@ -59,7 +59,7 @@ pub fn run_program<R: Threads, S: Source, K: Sink>(
 }
 
 /// Runs the script of the source with callbacks that are those of the program.
-fn run_with<R: Threads, S: Source, K: Sink>(
+fn run_with<R: Threads + Wait, S: Source, K: Sink>(
     rt: &R,
     alloc: Global,
     words: &[String],

@@ -24,7 +24,7 @@ use heap_script::{
 };
 use script_generator::generate;
 use std::alloc::Global;
-use std::sync::Arc;
+use std::sync::{Arc, Wait};
 use std::thread::Threads;
 
 const MOST_BYTES: usize = 16_777_216;
@@ -36,7 +36,7 @@ const NO_LINE: u32 = 0;
 
 /// Reads a script or generates one, runs it on one heap, and writes its report or its summary. The
 /// heap's markers run beside it, and pass the gate as it does. When memory is wanting is free.
-pub fn run<'a, R: Threads, S: Source, K: Sink, G: Gate + Send + Sync + 'static>(
+pub fn run<'a, R: Threads + Wait, S: Source, K: Sink, G: Gate + Send + Sync + 'static>(
     rt: &R,
     alloc: Global,
     words: &[String],
@@ -102,7 +102,7 @@ pub fn run<'a, R: Threads, S: Source, K: Sink, G: Gate + Send + Sync + 'static>(
 }
 
 /// Runs the script that the bytes are, with these options.
-pub(crate) fn run_bytes<'a, R: Threads, K: Sink, G: Gate + Send + Sync + 'static>(
+pub(crate) fn run_bytes<'a, R: Threads + Wait, K: Sink, G: Gate + Send + Sync + 'static>(
     rt: &R,
     alloc: Global,
     options: Options,
@@ -128,7 +128,7 @@ pub(crate) fn run_bytes<'a, R: Threads, K: Sink, G: Gate + Send + Sync + 'static
 }
 
 /// Runs the script that is generated from a seed, with these options.
-fn run_generated<'a, R: Threads, K: Sink, G: Gate + Send + Sync + 'static>(
+fn run_generated<'a, R: Threads + Wait, K: Sink, G: Gate + Send + Sync + 'static>(
     rt: &R,
     alloc: Global,
     options: Options,

@@ -16,10 +16,11 @@ ghost use Rattle.script_run.specs.Printed.{IsPrintedRun, IsPartRun};
 use gc_graph::{Command, Line};
 use heap_engine::{Gate, Heap};
 use heap_script::{Failed, Pieces, Sink};
+use std::sync::Wait;
 use std::thread::Threads;
 
 /// Does the commands in order, and prints each outcome.
-pub(crate) fn print_all<R: Threads, K: Sink, G: Gate + Send + Sync + 'static>(
+pub(crate) fn print_all<R: Threads + Wait, K: Sink, G: Gate + Send + Sync + 'static>(
     rt: &R,
     heap: &mut Heap<'_, G>,
     commands: &[Command],
@@ -55,7 +56,7 @@ pub(crate) fn print_all<R: Threads, K: Sink, G: Gate + Send + Sync + 'static>(
 }
 
 /// Does a command, and prints the lines of its outcome.
-fn print_outcome<R: Threads, K: Sink, G: Gate + Send + Sync + 'static>(
+fn print_outcome<R: Threads + Wait, K: Sink, G: Gate + Send + Sync + 'static>(
     rt: &R,
     heap: &mut Heap<'_, G>,
     command: &Command,

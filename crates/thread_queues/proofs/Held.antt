@@ -1,10 +1,9 @@
 -- Queues as the code holds them: their orders and replies, after a change of one of them.
 use Rattle.std.proofs.Common.{◌≡◌, ℕ, Bool, false, cond, ◌+◌, ◌-◌, ◌<◌, List, [], ◌∷◌, ◌++◌, length, get_or, set, take, replicate, Some, sym, ap, ◌∙◌, subst, arith}
-use Rattle.std.specs.List.{flat_map, slice_get, sum_by}
-use Rattle.std.proofs.lemmas.List.{append-nil, length-map, length_push, get_or-map, map-set, replicate_more, take_more_set}
+use Rattle.std.specs.List.{flat_map, slice_get}
+use Rattle.std.proofs.lemmas.List.{append-nil, length-map, get_or-map, map-set, replicate_more, take_more_set}
 use Rattle.std.proofs.lemmas.List.Concat.{flat_map-append, get_or-flat_map}
 use Rattle.std.proofs.lemmas.List.Folds.{flat_map-map, length-flat_map-take}
-use Rattle.std.proofs.lemmas.List.Sums.{sum_by-set}
 use Rattle.std.proofs.lemmas.Option.{slice_get-get_or}
 use Rattle.std.proofs.Math.Seq.{map-set_same}
 use Rattle.gc_graph.specs.declared.command.Order.{Order}
@@ -93,15 +92,3 @@ module _ (queues : List QueueView) (thread : ℕ) (order : Order) (old new : Que
       (replies_stay queues (thread - 1) old new is (ap (λ (q : QueueView). q.replies) pushed))) where
         none_runs : (threads : List ℕ) → cond awaiting threads [] ≡ []
         none_runs threads = ap (λ b. cond b threads []) (ap (λ (v : QueuesView). v.awaiting) viewed ∙ joined)
-
-  -- the order is one more
-  pub orders_counted : sum_by length (orders_of now) ≡ sum_by length (orders_of queues) + 1
-  orders_counted =
-      omega (
-        arith,
-        ap (sum_by length) orders_queued,
-        sum_by-set length (orders_of queues) (thread - 1) (queue_in (orders_of queues) thread ++ order ∷ []) [] within,
-        length_push (queue_in (orders_of queues) thread) order,
-      ) where
-        within : thread - 1 < length (orders_of queues)
-        within = simp length-map low

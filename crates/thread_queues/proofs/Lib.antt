@@ -3,7 +3,7 @@ mod Entries
 mod Calls
 mod Done
 mod Passes
+mod Joining
 mod Through
 mod Held
-mod Few
 mod Left

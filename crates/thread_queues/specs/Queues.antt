@@ -42,12 +42,13 @@ pub record QueueView : Type 0 where
   pub orders : List Order
   pub replies : List Line
 
--- a queue has a reply's room for each order; it has at most 2 ^ 60 orders, so that the replies of eight queues can be counted
+-- a queue has a reply's room for each order; it has at most 2 ^ 27 orders, so that the replies of eight queues can be
+-- counted in 32 bits
 pub record QueueHasRoom (queue : QueueView) (room : ℕ) : Type 0 where
   pub allowed : All IsAllowedOrder queue.orders
   pub room_for_all : length queue.orders ≤ room
-  pub few : length queue.orders ≤ 2 ^ 60
-  pub few_replies : length queue.replies ≤ 2 ^ 60
+  pub few : length queue.orders ≤ 2 ^ 27
+  pub few_replies : length queue.replies ≤ 2 ^ 27
 
 -- the orders, queue by queue
 abbrev pub orders_of : List QueueView → List (List Order)

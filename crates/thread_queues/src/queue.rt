@@ -8,8 +8,8 @@ use gc_graph::{Line, NoMemory, Order};
 use std::alloc::Global;
 use std::marker::Model;
 
-/// More orders a queue never has, so that the replies of eight queues can be counted.
-const MOST_ORDERS: usize = 0x1000_0000_0000_0000;
+/// More orders a queue never has, so that the replies of eight queues can be counted in 32 bits.
+const MOST_ORDERS: usize = 0x0800_0000;
 
 /// Orders that wait for a thread, the first one first, and the replies to those that it did last.
 #[derive(Drop)]
@@ -79,7 +79,7 @@ impl Queue {
 
     pub fn replies(&self) -> &[Line]
         ensures replies { result.now ≡ self.now.replies }
-        ensures few { length self.now.replies ≤ 2 ^ 60 }
+        ensures few { length self.now.replies ≤ 2 ^ 27 }
     {
         &self.replies
     }

@@ -1,12 +1,11 @@
 // The queues of the script's threads, and the replies of those that went last.
 
-ghost use Rattle.std.specs.Prelude.{◌≡◌, ◌+◌, ◌<◌, ◌≤◌, [], true, false, length, IfOk, OnOk, OnErr, Some};
-ghost use Rattle.std.specs.Prelude.{slice_get, sum_by, replicate, vec_capacity};
+ghost use Rattle.std.specs.Prelude.{◌≡◌, ◌^◌, ◌<◌, ◌≤◌, [], true, false, length, IfOk, OnOk, OnErr, Some};
+ghost use Rattle.std.specs.Prelude.{slice_get, replicate, vec_capacity};
 ghost use Rattle.gc_graph.specs.Lawful.{IsAllowedOrder};
-ghost use Rattle.cross_thread_region.specs.Calls.{free_history};
 ghost use Rattle.thread_queues.specs.Queues.{no_orders, with_order, threads_in, queues_left};
 ghost use Rattle.thread_queues.specs.Queues.{orders_of, replies_of};
-ghost use Rattle.thread_queues.specs.Going.{AreOut, IsFirst, HaveGone};
+ghost use Rattle.thread_queues.specs.Going.{AreOut, IsFirst, HaveGone, HaveMet};
 ghost use Rattle.thread_queues.specs.Orders.{HasOut};
 
 use crate::going::go_all;
@@ -16,6 +15,7 @@ use cross_thread_region::{Pass, Region};
 use gc_graph::{Line, NoMemory, Order};
 use std::alloc::Global;
 use std::marker::Model;
+use std::sync::Wait;
 
 const THREADS: u32 = 8;
 
@@ -60,8 +60,6 @@ impl ThreadQueues {
         requires joined { self.old.awaiting ≡ false }
         ensures queued { OnOk result (self.new
             ≡ record self.old { queues = with_order self.old.queues thread order }) }
-        ensures counted { OnOk result (sum_by length self.new.queues
-            ≡ sum_by length self.old.queues + 1) }
         ensures refused { OnErr result (self.new ≡ self.old) }
     {
         let queue = &mut self.queues[(thread - 1) as usize];
@@ -71,30 +69,27 @@ impl ThreadQueues {
 
     /// The threads whose queues aren't empty do their orders, each with a pass of its own, which stays
     /// out, and a join is awaited. Answers how many they are.
-    pub fn go(&mut self, region: &mut Region, pass: &mut Pass, totals: Totals) -> u32
+    pub fn go<R: Wait>(&mut self, rt: &R, region: &Region, pass: &mut Pass, totals: Totals) -> u32
         requires joined { self.old.awaiting ≡ false }
-        requires first { IsFirst region.old pass.old }
+        requires first { IsFirst region.now pass.old }
         requires alone { pass.old.out ≡ [] }
         ensures queues { self.new.queues ≡ self.old.queues }
         ensures running { self.new.running ≡ threads_in self.old.queues }
         ensures awaiting { self.new.awaiting ≡ true }
         ensures count { result ≡ length self.new.running }
-        ensures went { HaveGone self.old.queues totals (free_history region.old)
-            (free_history region.new) self.new.replies }
-        ensures few { length self.new.replies ≤ sum_by length self.old.queues }
-        ensures few_entries { length (free_history region.new)
-            ≤ length (free_history region.old) + sum_by length self.old.queues }
+        ensures went { HaveGone self.old.queues totals pass.old.seen self.new.passes
+            self.new.replies }
         ensures pass { pass.new ≡ record pass.old { out = pass.new.out } }
-        ensures first { IsFirst region.new pass.new }
-        ensures outs { AreOut region.new pass.new self.new }
+        ensures first { IsFirst region.now pass.new }
+        ensures outs { AreOut region.now pass.new self.new }
     {
-        go_all(&mut self.queues, &mut self.passes, region, pass, totals);
+        go_all(rt, &mut self.queues, &mut self.passes, region, pass, totals);
         self.awaiting = true;
         count_threads(&self.queues)
     }
 
-    /// The threads that went are joined, and their queues are empty. The first pass has then seen the
-    /// whole history, and no other one is out. Answers how many threads they were.
+    /// The threads that went are joined, and their queues are empty. The first pass has then seen what
+    /// their passes have, and no other one is out. Answers how many threads they were.
     pub fn join(&mut self, region: &Region, pass: &mut Pass) -> u32
         requires awaited { self.old.awaiting ≡ true }
         requires first { IsFirst region.now pass.old }
@@ -106,8 +101,8 @@ impl ThreadQueues {
           awaiting = false;
           passes = [];
         } }
-        ensures left { sum_by length self.new.queues ≡ 0 }
-        ensures pass { pass.new ≡ record pass.old { seen = free_history region.now; out = [] } }
+        ensures pass { pass.new ≡ record pass.old { seen = pass.new.seen; out = [] } }
+        ensures met { HaveMet self.old.passes pass.old pass.new.seen }
         ensures first { IsFirst region.now pass.new }
     {
         let count = count_threads(&self.queues);
@@ -118,40 +113,42 @@ impl ThreadQueues {
     }
 
     /// The passes of the threads that run are joined, whose orders and replies stay. The first pass has
-    /// then seen the whole history, and no other one is out.
+    /// then seen what they have, and no other one is out.
     pub fn dismiss(&mut self, region: &Region, pass: &mut Pass)
         requires first { IsFirst region.now pass.old }
         requires outs { AreOut region.now pass.old self.old }
         ensures dismissed { self.new ≡ record self.old { passes = [] } }
-        ensures pass { pass.new ≡ record pass.old { seen = free_history region.now; out = [] } }
+        ensures pass { pass.new ≡ record pass.old { seen = pass.new.seen; out = [] } }
+        ensures met { HaveMet self.old.passes pass.old pass.new.seen }
         ensures first { IsFirst region.now pass.new }
     {
         join_all(&mut self.passes, region, pass);
     }
 
     /// How many orders of the threads that went last were answered.
-    pub fn reply_count(&self) -> u64
-        ensures { result ≡ length self.now.replies }
+    pub fn reply_count(&self) -> u32
+        ensures count { result ≡ length self.now.replies }
+        ensures few { length self.now.replies ≤ 2 ^ 30 }
     {
         let mut count = 0;
         for i in 0..self.queues.len() {
-            count += self.queues[i].replies().len() as u64;
+            count += self.queues[i].replies().len() as u32;
         }
         count
     }
 
     /// What one of these orders was answered, thread after thread.
-    pub fn reply(&self, index: u64) -> Line
+    pub fn reply(&self, index: u32) -> Line
         requires { index < length self.now.replies }
         ensures { slice_get self.now.replies index ≡ Some result }
     {
         let mut left = index;
         for i in 0..self.queues.len() {
             let replies = self.queues[i].replies();
-            if left < replies.len() as u64 {
+            if left < replies.len() as u32 {
                 return replies[left as usize];
             }
-            left -= replies.len() as u64;
+            left -= replies.len() as u32;
         }
         unreachable!()
     }
@@ -201,7 +198,8 @@ fn join_all(passes: &mut Vec<Pass>, region: &Region, pass: &mut Pass)
     requires first { IsFirst region.now pass.old }
     requires out { HasOut region.now pass.old passes.old.items }
     ensures none { passes.new.items ≡ [] }
-    ensures pass { pass.new ≡ record pass.old { seen = free_history region.now; out = [] } }
+    ensures pass { pass.new ≡ record pass.old { seen = pass.new.seen; out = [] } }
+    ensures met { HaveMet passes.old.items pass.old pass.new.seen }
     ensures first { IsFirst region.now pass.new }
     ensures room { vec_capacity passes.new ≡ vec_capacity passes.old }
 {

@@ -56,7 +56,7 @@ close-requires-clause-differ c =
 
 pub returns-clause-over : goal.returns-clause-over
 returns-clause-over c =
-    roots_marked c.args.types.now c.args.strong.now c.args.held.now c.args.precise c.args.stack.now c.args.seat.now c.visit_slots.new.seat
+    roots_marked c.args.types.now c.args.strong.now c.args.held.now.history c.args.precise c.args.stack.now c.args.seat.now c.visit_slots.new.seat
     c.visit_region.new.seat c.scan_stack.new.seat c.close.new.seat c.args.marking.now c.visit_slots.new.marking c.visit_region.new.marking
     c.scan_stack.new.marking c.bodies_lie_apart.ensures c.requires.ready.on c.requires.may c.visit_slots.ensures.marks c.visit_slots.ensures.roots
     c.visit_slots.ensures.only c.visit_region.ensures.marks c.visit_region.ensures.roots c.visit_region.ensures.only c.scan_stack.ensures.marks
@@ -77,7 +77,7 @@ returns-clause-shares c =
 
 pub returns-clause-looked : goal.returns-clause-looked
 returns-clause-looked c precise fine =
-    looked_out c.args.types.now c.args.held.now c.args.seat.now c.visit_slots.new.seat c.visit_region.new.seat c.scan_stack.new.seat c.close.new.seat
+    looked_out c.args.types.now c.args.held.now.history c.args.seat.now c.visit_slots.new.seat c.visit_region.new.seat c.scan_stack.new.seat c.close.new.seat
     c.visit_slots.ensures.looked c.visit_region.ensures.looked (c.scan_stack.ensures.looked precise) c.visit_region.ensures.roots
     c.scan_stack.ensures.marks.marked c.close.ensures.over.roots
     (c.close.ensures.looked fine)

@@ -10,7 +10,7 @@ use Rattle.persistent_slots.specs.Clearing.{taken}
 use Rattle.callback_table.specs.declared.registry.Registered.{Registered}
 use Rattle.callback_table.specs.Registry.{IsRegistered}
 use Rattle.callback_table.specs.Table.{callback_kinds}
-use Rattle.cross_thread_region.specs.Calls.{RegionView, PassView, free_history}
+use Rattle.cross_thread_region.specs.Calls.{PassView}
 use Rattle.cross_thread_region.specs.Pauses.{dying_of}
 use Rattle.marker_core.specs.Bodies.{IsPlace, holds}
 use Rattle.marker_core.specs.declared.states.Body.{Body}
@@ -28,14 +28,10 @@ use Rattle.atomic_pause.proofs.MarkedOut.{looked_early}
 use Rattle.atomic_pause.proofs.BodyReferences.{alive_marked, marked_references}
 use Rattle.atomic_pause.proofs.PausedNodes.{few_kept, none_missing, prepared, paused_is, registered_after, kept_count, dead_left}
 use Rattle.atomic_pause.proofs.ReachedNodes.{has_marked, others_at, other_roots, roots_with, roots_with_others, keeps_between}
-use Rattle.atomic_pause.proofs.RegionPaused.{NamesLive, before_own, found_live, still_started, shared_place, weak_is_place, cleared_are_dead, region_paused}
+use Rattle.atomic_pause.proofs.RegionPaused.{NamesLive, before_own, found_live, shared_place, weak_is_place, cleared_are_dead, region_paused}
 use Rattle.atomic_pause.proofs.WeakJudged.{both_cleared, extents_cleared, place_cleared, weak_left_is}
 use Rattle.atomic_pause.proofs.pausing.pause.Given as given
 use Rattle.atomic_pause.proofs.pausing.pause.Goals as goal
-
-pub pause_begin-held-requires-clause-started : goal.pause_begin-held-requires-clause-started
-pause_begin-held-requires-clause-started g c =
-    still_started c.args.parts.nodes.now.value c.args.parts.region.now c.args.parts.pass.now c.requires.shared c.is_legal.ensures.right
 
 pub mark_out-more-requires-clause-differ : goal.mark_out-more-requires-clause-differ
 mark_out-more-requires-clause-differ g c =
@@ -43,22 +39,21 @@ mark_out-more-requires-clause-differ g c =
 
 pub mark_out-more-requires-clause-shared : goal.mark_out-more-requires-clause-shared
 mark_out-more-requires-clause-shared g c = λ x p is.
-    shared_place c.args.parts.nodes.now.value c.pause_begin-held.result c.args.parts.seat.now x p
-    (found_live c.args.parts.nodes.now.value c.args.parts.region.now c.args.parts.pass.now c.pause_begin-held.result c.requires.shared c.pause_begin-held.ensures.found
-    c.pause_begin-held.ensures.right) c.requires.held is
+    shared_place c.args.parts.nodes.now.value c.pause_begin-held.result.history c.args.parts.seat.now x p
+    (found_live c.args.parts.nodes.now.value c.args.parts.region.now c.args.parts.pass.now c.pause_begin-held.result.history c.requires.shared c.pause_begin-held.ensures.found) c.requires.held is
 
 pub clear_weak-requires-clause-references : goal.clear_weak-requires-clause-references
 clear_weak-requires-clause-references g c =
     let marks = c.mark_out-more.ensures.over in
     marked_references Weak (setup_in_space c.args.parts.space.now c.args.parts.types.now (callback_kinds c.args.parts.callbacks.now)) c.args.parts.nodes.now.value c.mark_out-more.new.seat refl (marks.known ∙ c.requires.types)
-    (alive_marked (setup_in_space c.args.parts.space.now c.args.parts.types.now (callback_kinds c.args.parts.callbacks.now)) c.args.parts.nodes.now.value (IsRootPlace c.args.parts.strong.now c.pause_begin-held.result c.args.precise c.args.parts.seat.now.bodies c.args.stack.now) (IsMayOrRoot c.pause_begin-held.result c.args.precise c.args.parts.seat.now c.args.stack.now)
+    (alive_marked (setup_in_space c.args.parts.space.now c.args.parts.types.now (callback_kinds c.args.parts.callbacks.now)) c.args.parts.nodes.now.value (IsRootPlace c.args.parts.strong.now c.pause_begin-held.result.history c.args.precise c.args.parts.seat.now.bodies c.args.stack.now) (IsMayOrRoot c.pause_begin-held.result.history c.args.precise c.args.parts.seat.now c.args.stack.now)
     c.args.parts.seat.now c.mark_out-more.new.seat c.requires.valid c.requires.held (c.bodies_lie_apart.ensures.marking c.requires.ready.on).no_dead marks)
 
 pub clear_weak-requires-clause-pairs : goal.clear_weak-requires-clause-pairs
 clear_weak-requires-clause-pairs g c =
     let marks = c.mark_out-more.ensures.over in
     marked_references Pair (setup_in_space c.args.parts.space.now c.args.parts.types.now (callback_kinds c.args.parts.callbacks.now)) c.args.parts.nodes.now.value c.mark_out-more.new.seat refl (marks.known ∙ c.requires.types)
-    (alive_marked (setup_in_space c.args.parts.space.now c.args.parts.types.now (callback_kinds c.args.parts.callbacks.now)) c.args.parts.nodes.now.value (IsRootPlace c.args.parts.strong.now c.pause_begin-held.result c.args.precise c.args.parts.seat.now.bodies c.args.stack.now) (IsMayOrRoot c.pause_begin-held.result c.args.precise c.args.parts.seat.now c.args.stack.now)
+    (alive_marked (setup_in_space c.args.parts.space.now c.args.parts.types.now (callback_kinds c.args.parts.callbacks.now)) c.args.parts.nodes.now.value (IsRootPlace c.args.parts.strong.now c.pause_begin-held.result.history c.args.precise c.args.parts.seat.now.bodies c.args.stack.now) (IsMayOrRoot c.pause_begin-held.result.history c.args.precise c.args.parts.seat.now c.args.stack.now)
     c.args.parts.seat.now c.mark_out-more.new.seat c.requires.valid c.requires.held (c.bodies_lie_apart.ensures.marking c.requires.ready.on).no_dead marks)
 
 pub clear_weak-requires-clause-places : goal.clear_weak-requires-clause-places
@@ -71,9 +66,8 @@ clear_region-requires-clause-places g c = λ x p is.
     let marks = c.mark_out-more.ensures.over in
     place_cleared c.mark_out-more.new.seat c.clear_weak.new.seat p c.clear_weak.ensures.fields
     (subst (λ bs. IsPlace bs p) (sym marks.bodies)
-    (weak_is_place c.args.parts.nodes.now.value c.pause_begin-held.result c.args.parts.seat.now x p
-    (found_live c.args.parts.nodes.now.value c.args.parts.region.now c.args.parts.pass.now c.pause_begin-held.result c.requires.shared c.pause_begin-held.ensures.found
-    c.pause_begin-held.ensures.right) c.requires.held is))
+    (weak_is_place c.args.parts.nodes.now.value c.pause_begin-held.result.history c.args.parts.seat.now x p
+    (found_live c.args.parts.nodes.now.value c.args.parts.region.now c.args.parts.pass.now c.pause_begin-held.result.history c.requires.shared c.pause_begin-held.ensures.found) c.requires.held is))
 
 pub prefinalise-requires-clause-ready : goal.prefinalise-requires-clause-ready
 prefinalise-requires-clause-ready g c =
@@ -83,7 +77,7 @@ prefinalise-requires-clause-ready g c =
     let judged_is : c.judged.result.value ≡ nodes_after (kept_of (holds c.mark_out-more.new.seat.marked) c.args.parts.nodes.now.value) c.args.parts.nodes.now.value =
     c.judged.ensures ∙ ap (λ (u : SeatView). nodes_after (kept_of (holds u.marked) c.args.parts.nodes.now.value) c.args.parts.nodes.now.value) (c.clear_region.ensures.view ∙ c.clear_weak.ensures.fields) in
     let ready : IsPrepared c.args.parts.space.now c.args.parts.types.now (both_cleared y) (nodes_after (kept_of (holds y.marked) nodes) nodes) =
-    prepared c.args.parts.space.now c.args.parts.types.now (callback_kinds c.args.parts.callbacks.now) nodes (IsRootPlace c.args.parts.strong.now c.pause_begin-held.result c.args.precise c.args.parts.seat.now.bodies c.args.stack.now) (IsMayOrRoot c.pause_begin-held.result c.args.precise c.args.parts.seat.now c.args.stack.now)
+    prepared c.args.parts.space.now c.args.parts.types.now (callback_kinds c.args.parts.callbacks.now) nodes (IsRootPlace c.args.parts.strong.now c.pause_begin-held.result.history c.args.precise c.args.parts.seat.now.bodies c.args.stack.now) (IsMayOrRoot c.pause_begin-held.result.history c.args.precise c.args.parts.seat.now c.args.stack.now)
     c.args.parts.seat.now y c.requires.valid c.requires.types c.requires.heap (c.bodies_lie_apart.ensures.marking c.requires.ready.on).no_dead c.requires.held c.requires.few marks in
     subst (IsPrepared c.args.parts.space.now c.args.parts.types.now c.clear_region.new.seat) (sym judged_is)
     (prepared_looked c.args.parts.space.now c.args.parts.types.now (both_cleared y) c.clear_region.new.seat (nodes_after (kept_of (holds y.marked) nodes) nodes)
@@ -120,7 +114,7 @@ overflow_sub-result g c =
 
 -- ---- at the end
 
-marks : (g : given.Over) (c : goal.After-is_refused g) → MarksReachable c.args.parts.types.now (IsRootPlace c.args.parts.strong.now c.pause_begin-held.result c.args.precise c.args.parts.seat.now.bodies c.args.stack.now) (IsMayOrRoot c.pause_begin-held.result c.args.precise c.args.parts.seat.now c.args.stack.now) c.args.parts.seat.now c.mark_out-more.new.seat
+marks : (g : given.Over) (c : goal.After-is_refused g) → MarksReachable c.args.parts.types.now (IsRootPlace c.args.parts.strong.now c.pause_begin-held.result.history c.args.precise c.args.parts.seat.now.bodies c.args.stack.now) (IsMayOrRoot c.pause_begin-held.result.history c.args.precise c.args.parts.seat.now c.args.stack.now) c.args.parts.seat.now c.mark_out-more.new.seat
 marks g c =
     c.mark_out-more.ensures.over
 
@@ -136,16 +130,15 @@ stayed : (g : given.Over) (c : goal.After-is_refused g) → HaveStayed (nodes_af
 stayed g c = subst (λ (ns : List Node). HaveStayed ns c.prefinalise.new.nodes.value) (judged_so g c) c.prefinalise.ensures.stayed
 
 -- what the pause found
-found : (g : given.Over) (c : goal.After-is_refused g) → NamesLive c.args.parts.nodes.now.value c.pause_begin-held.result
+found : (g : given.Over) (c : goal.After-is_refused g) → NamesLive c.args.parts.nodes.now.value c.pause_begin-held.result.history
 found g c =
-    found_live c.args.parts.nodes.now.value c.args.parts.region.now c.args.parts.pass.now c.pause_begin-held.result c.requires.shared c.pause_begin-held.ensures.found
-    c.pause_begin-held.ensures.right
+    found_live c.args.parts.nodes.now.value c.args.parts.region.now c.args.parts.pass.now c.pause_begin-held.result.history c.requires.shared c.pause_begin-held.ensures.found
 
 -- its pass has seen that, and then the pause's entry
-before : (g : given.Over) (c : goal.After-is_refused g) → found_before c.clear_region.new.pass ≡ c.pause_begin-held.result
+before : (g : given.Over) (c : goal.After-is_refused g) → found_before c.clear_region.new.pass ≡ c.pause_begin-held.result.history
 before g c =
-    before_own c.pause_begin-held.result _ c.clear_region.new.pass
-    (ap (λ (s : PassView). s.seen) c.clear_region.ensures.seen ∙ ap (λ (r : RegionView). free_history r) c.clear_region.ensures.region)
+    before_own c.pause_begin-held.result.history _ c.clear_region.new.pass
+    (ap (λ (s : PassView). s.seen) c.clear_region.ensures.pass)
 
 pub returns-clause-paused : goal.returns-clause-paused
 unfolding kept
@@ -153,14 +146,14 @@ returns-clause-paused g c = λ slots may names within.
     let nodes : List Node = c.args.parts.nodes.now.value in
     let v : SeatView = c.args.parts.seat.now in
     let others : List ℕ = other_roots nodes c.clear_region.new.pass c.args.precise c.args.stack.now in
-    let other : ℕ → Type 0 = IsOtherRoot c.pause_begin-held.result c.args.precise v.bodies c.args.stack.now in
-    let are = others_at nodes c.clear_region.new.pass c.pause_begin-held.result c.args.precise c.args.stack.now v (found g c)
+    let other : ℕ → Type 0 = IsOtherRoot c.pause_begin-held.result.history c.args.precise v.bodies c.args.stack.now in
+    let are = others_at nodes c.clear_region.new.pass c.pause_begin-held.result.history c.args.precise c.args.stack.now v (found g c)
     (before g c) (c.bodies_lie_apart.ensures.marking c.requires.ready.on).no_dead c.requires.held in
     let at = has_marked (setup_in_space c.args.parts.space.now c.args.parts.types.now (callback_kinds c.args.parts.callbacks.now)) nodes slots c.args.parts.strong.now may others other v
     c.mark_out-more.new.seat c.bodies_lie_apart.ensures c.requires.ready.on c.requires.valid c.requires.held names within are (marks g c) in
     let between = keeps_between (setup_in_space c.args.parts.space.now c.args.parts.types.now (callback_kinds c.args.parts.callbacks.now)) nodes (slot_targets slots ++ others)
-    (members may ++ others) (IsRootPlace c.args.parts.strong.now c.pause_begin-held.result c.args.precise v.bodies c.args.stack.now)
-    (IsMayOrRoot c.pause_begin-held.result c.args.precise v c.args.stack.now) v c.mark_out-more.new.seat c.reach_is_least.ensures at in
+    (members may ++ others) (IsRootPlace c.args.parts.strong.now c.pause_begin-held.result.history c.args.precise v.bodies c.args.stack.now)
+    (IsMayOrRoot c.pause_begin-held.result.history c.args.precise v c.args.stack.now) v c.mark_out-more.new.seat c.reach_is_least.ensures at in
     paused_is (callback_kinds c.args.parts.callbacks.now) (roots_with (slot_targets slots) nodes c.clear_region.new.pass c.args.precise c.args.stack.now)
     (roots_with (members may) nodes c.clear_region.new.pass c.args.precise c.args.stack.now) (kept g c) nodes c.judged.result.value c.prefinalise.new.nodes.value
     c.args.parts.registry.now c.prefinalise.new.registry
@@ -179,12 +172,10 @@ returns-clause-weak g c = λ slots names.
 pub returns-clause-region : goal.returns-clause-region
 unfolding kept
 returns-clause-region g c =
-    region_paused c.prefinalise.new.nodes.value c.pause_begin-held.result (dying_of (λ a. not (holds c.clear_weak.new.seat.marked a)) c.pause_begin-held.result)
-    c.args.parts.region.now c.pause_begin-held.new.self c.clear_region.new.region c.args.parts.pass.now c.pause_begin-held.new.pass c.clear_region.new.pass
-    c.pause_begin-held.ensures.found c.requires.shared.first c.pause_begin-held.ensures.right c.pause_begin-held.ensures.held
-    (cleared_are_dead c.args.parts.nodes.now.value c.prefinalise.new.nodes.value c.mark_out-more.new.seat c.clear_weak.new.seat c.pause_begin-held.result (found g c)
-    (stayed g c) (ap (λ (u : SeatView). u.marked) c.clear_weak.ensures.fields)) c.pause_begin-held.ensures.region c.pause_begin-held.ensures.pass
-    c.clear_region.ensures.region c.clear_region.ensures.seen c.clear_region.ensures.ready c.clear_region.ensures.others c.clear_region.ensures.legal
+    region_paused c.prefinalise.new.nodes.value c.pause_begin-held.result (dying_of (λ a. not (holds c.clear_weak.new.seat.marked a)) c.pause_begin-held.result.history)
+    c.args.parts.pass.now c.pause_begin-held.new.pass c.clear_region.new.pass c.pause_begin-held.ensures.found c.requires.shared.first c.requires.shared.ready.free
+    (cleared_are_dead c.args.parts.nodes.now.value c.prefinalise.new.nodes.value c.mark_out-more.new.seat c.clear_weak.new.seat c.pause_begin-held.result.history (found g c)
+    (stayed g c) (ap (λ (u : SeatView). u.marked) c.clear_weak.ensures.fields)) c.pause_begin-held.ensures.pass c.clear_region.ensures.pass c.clear_region.ensures.legal
     c.clear_region.ensures.weak
 
 pub returns-clause-extents : goal.returns-clause-extents
@@ -201,8 +192,8 @@ live : (g : given.Over) (c : goal.After-is_refused g) → c.args.parts.traced + 
 unfolding kept
 live g c =
     counted g c
-    ∙ kept_count c.args.parts.nodes.now.value c.prefinalise.new.nodes.value (IsRootPlace c.args.parts.strong.now c.pause_begin-held.result c.args.precise c.args.parts.seat.now.bodies c.args.stack.now)
-    (IsMayOrRoot c.pause_begin-held.result c.args.precise c.args.parts.seat.now c.args.stack.now) c.args.parts.types.now c.args.parts.seat.now c.mark_out-more.new.seat c.requires.held
+    ∙ kept_count c.args.parts.nodes.now.value c.prefinalise.new.nodes.value (IsRootPlace c.args.parts.strong.now c.pause_begin-held.result.history c.args.precise c.args.parts.seat.now.bodies c.args.stack.now)
+    (IsMayOrRoot c.pause_begin-held.result.history c.args.precise c.args.parts.seat.now c.args.stack.now) c.args.parts.types.now c.args.parts.seat.now c.mark_out-more.new.seat c.requires.held
     (c.bodies_lie_apart.ensures.marking c.requires.ready.on).no_dead (marks g c) (stayed g c)
 
 pub returns-clause-kept : goal.returns-clause-kept

@@ -6,7 +6,7 @@ use Rattle.gc_graph.specs.Members.{any_from, any_member}
 use Rattle.gc_graph.specs.History.{NamesWeakSlots}
 use Rattle.marker_core.specs.Bodies.{holds}
 use Rattle.persistent_slots.specs.Steady.{may_be_asked, answers_by}
-use Rattle.cross_thread_region.specs.Calls.{given_back}
+use Rattle.cross_thread_region.specs.Calls.{after_turn}
 use Rattle.cross_thread_region.specs.Histories.{slots_of}
 use Rattle.cross_thread_region.specs.Pauses.{history_paused, dying_of}
 use Rattle.cross_thread_region.specs.DyingSlots.{same_dying}
@@ -20,7 +20,7 @@ pause_end-requires-clause-asks c =
 told_rule : List ℕ → ℕ → Bool
 told_rule dead p = list_any (λ w. eqb w (p + 1)) dead
 
-exactly : (c : goal.After-pause_end) → c.pause_end.result ≡ dying_of (told_rule c.dead_places-dead.result) c.args.held
+exactly : (c : goal.After-pause_end) → c.pause_end.result ≡ dying_of (told_rule c.dead_places-dead.result) c.args.held.history
 unfolding told_rule
 exactly c =
     c.pause_end.ensures.exactly (told_rule c.dead_places-dead.result)
@@ -28,12 +28,12 @@ exactly c =
     (λ test place answer next known s. search rules) _ _ refl)
 
 -- and it is told exactly where it is the place of a weak slot that isn't marked
-unmarked : (c : goal.After-pause_end) → dying_of (told_rule c.dead_places-dead.result) c.args.held ≡ dying_of (λ a. not (holds c.args.seat.now.marked a)) c.args.held
+unmarked : (c : goal.After-pause_end) → dying_of (told_rule c.dead_places-dead.result) c.args.held.history ≡ dying_of (λ a. not (holds c.args.seat.now.marked a)) c.args.held.history
 unfolding told_rule
 unmarked c =
     let dead : List ℕ = c.dead_places-dead.result in
     let marked : ℕ → Bool = holds c.args.seat.now.marked in
-    same_dying (told_rule dead) (λ a. not (marked a)) c.args.held (λ x p is. elim (cases_Bool (told_rule dead p)) [
+    same_dying (told_rule dead) (λ a. not (marked a)) c.args.held.history (λ x p is. elim (cases_Bool (told_rule dead p)) [
       | inl told ↦
           (let w = any_member (λ n. eqb n (p + 1)) dead told in
           let there : Contains dead (p + 1) = subst (Contains dead) (eqb-true w.0 (p + 1) w.2) w.1 in
@@ -44,11 +44,11 @@ unmarked c =
       ]
     ])
 
-cleared : (c : goal.After-pause_end) → c.pause_end.result ≡ dying_of (λ a. not (holds c.args.seat.now.marked a)) c.args.held
+cleared : (c : goal.After-pause_end) → c.pause_end.result ≡ dying_of (λ a. not (holds c.args.seat.now.marked a)) c.args.held.history
 cleared c = exactly c ∙ unmarked c
 
-pub returns-clause-region : goal.returns-clause-region
-returns-clause-region c = c.pause_end.ensures.region ∙ ap (λ mask. given_back c.args.region.now (history_paused c.args.pass.now c.args.held mask)) (cleared c)
+pub returns-clause-pass : goal.returns-clause-pass
+returns-clause-pass c = c.pause_end.ensures.pass ∙ ap (λ mask. after_turn c.args.pass.now (history_paused c.args.held.history mask)) (cleared c)
 
 pub returns-clause-weak : goal.returns-clause-weak
-returns-clause-weak c = subst (λ mask. NamesWeakSlots mask (slots_of c.args.held)) (cleared c) c.pause_end.ensures.weak
+returns-clause-weak c = subst (λ mask. NamesWeakSlots mask (slots_of c.args.held.history)) (cleared c) c.pause_end.ensures.weak

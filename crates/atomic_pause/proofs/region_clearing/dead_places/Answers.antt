@@ -20,8 +20,8 @@ loop-i-init c = record {
 
 pub returns-clause-dead : goal.returns-clause-dead
 returns-clause-dead c = λ x p is unmarked.
-    let low : x < c.loop-i.i = omega (arith, weak_place_below c.args.held.now x p is, c.loop-i-test.false) in
-    let inside : x < length c.loop-i.dead = omega (arith, weak_place_below c.args.held.now x p is, c.loop-i.invariant.len) in
+    let low : x < c.loop-i.i = omega (arith, weak_place_below c.args.held.now.history x p is, c.loop-i-test.false) in
+    let inside : x < length c.loop-i.dead = omega (arith, weak_place_below c.args.held.now.history x p is, c.loop-i.invariant.len) in
     (x, inside, get_or_default c.loop-i.dead x (p + 1) 0 inside ∙ c.loop-i.invariant.told x p low is unmarked)
 
 pub returns-clause-only : goal.returns-clause-only

@@ -10,6 +10,6 @@ invariant-loop-i l = record {
   len : length l.dead ≡ 32;
   view : OnlyLooked l.initial.seat l.seat;
   looked : StartsWith l.seat.looked l.initial.seat.looked;
-  told : (x p : ℕ) → x < l.i → weak_place l.held x ≡ Some p → holds l.initial.seat.marked p ≡ false → get_or l.dead x 0 ≡ p + 1;
+  told : (x p : ℕ) → x < l.i → weak_place l.held.history x ≡ Some p → holds l.initial.seat.marked p ≡ false → get_or l.dead x 0 ≡ p + 1;
   only : (x p : ℕ) → get_or l.dead x 0 ≡ p + 1 → holds l.initial.seat.marked p ≡ false;
 }

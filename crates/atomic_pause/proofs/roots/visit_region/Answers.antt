@@ -21,7 +21,7 @@ pub loop-i-init : goal.loop-i-init
 loop-i-init c = record {
   marks = scans_none c.args.seat.now c.args.marking.now;
   noted = refl;
-  looked = looked_nowhere (IsSharedPlace c.args.held.now) c.args.seat.now c.args.seat.now refl;
+  looked = looked_nowhere (IsSharedPlace c.args.held.now.history) c.args.seat.now c.args.seat.now refl;
   roots = λ x p low is. absurd (omega (arith, low));
   only = λ p marked. inl marked;
 }
@@ -41,17 +41,17 @@ loop-i-preserved c =
       | in-Some w ↦ ap (λ (v : SeatView). v.noted) w.seat-is ∙ w.keep.ensures.noted
       | in_default w ↦ ap (λ (v : SeatView). v.noted) w.seat-is
     ] in
-    let looks : LooksOnlyAt (IsSharedPlace c.args.held.now) before after = elim c.match-strong.branch [
-      | in-Some w ↦ looked_once (IsSharedPlace c.args.held.now) before after w.in-Some.place
+    let looks : LooksOnlyAt (IsSharedPlace c.args.held.now.history) before after = elim c.match-strong.branch [
+      | in-Some w ↦ looked_once (IsSharedPlace c.args.held.now.history) before after w.in-Some.place
           (ap (λ (v : SeatView). v.looked) w.seat-is ∙ w.keep.ensures.looked) (c.loop-i.i, sym c.strong.ensures ∙ w.in-Some.is)
-      | in_default w ↦ looked_nowhere (IsSharedPlace c.args.held.now) before after (ap (λ (v : SeatView). v.looked) w.seat-is)
+      | in_default w ↦ looked_nowhere (IsSharedPlace c.args.held.now.history) before after (ap (λ (v : SeatView). v.looked) w.seat-is)
     ] in
-    let root : (p : ℕ) → strong_place c.args.held.now c.loop-i.i ≡ Some p → holds after.marked p ≡ true = λ p is. elim c.match-strong.branch [
+    let root : (p : ℕ) → strong_place c.args.held.now.history c.loop-i.i ≡ Some p → holds after.marked p ≡ true = λ p is. elim c.match-strong.branch [
       | in-Some w ↦ subst (λ s. holds s.marked p ≡ true) (sym w.seat-is)
           (subst (λ q. holds w.keep.new.seat.marked q ≡ true) (ap named (sym w.in-Some.is ∙ c.strong.ensures ∙ is)) w.keep.ensures.root)
       | in_default w ↦ absurd (w.in_default.not-Some p (c.strong.ensures ∙ is))
     ] in
-    let only : (p : ℕ) → holds after.marked p ≡ true → (holds before.marked p ≡ true) ⊎ (strong_place c.args.held.now c.loop-i.i ≡ Some p) = λ p marked. elim c.match-strong.branch [
+    let only : (p : ℕ) → holds after.marked p ≡ true → (holds before.marked p ≡ true) ⊎ (strong_place c.args.held.now.history c.loop-i.i ≡ Some p) = λ p marked. elim c.match-strong.branch [
       | in-Some w ↦ elim (w.keep.ensures.only p (subst (λ s. holds s.marked p ≡ true) w.seat-is marked)) [
         | inl first ↦ inl first
         | inr here ↦ inr (sym c.strong.ensures ∙ w.in-Some.is ∙ ap Some here)
@@ -61,15 +61,15 @@ loop-i-preserved c =
     record {
       marks = scans_then c.args.seat.now before after c.args.marking.now c.loop-i.marking c.match-strong.marking c.loop-i.invariant.marks visited;
       noted = same ∙ c.loop-i.invariant.noted;
-      looked = looked_then (IsSharedPlace c.args.held.now) c.args.seat.now before after c.loop-i.invariant.looked looks;
+      looked = looked_then (IsSharedPlace c.args.held.now.history) c.args.seat.now before after c.loop-i.invariant.looked looks;
       roots = λ x p low is. elim (cases_lt x c.loop-i.i) [
         | inl earlier ↦ visited.marked p (c.loop-i.invariant.roots x p earlier is)
         | inr late ↦
             (let here : x ≡ c.loop-i.i = omega (arith, low, late) in
-            root p (subst (λ y. strong_place c.args.held.now y ≡ Some p) here is))
+            root p (subst (λ y. strong_place c.args.held.now.history y ≡ Some p) here is))
       ];
       only = λ p marked. elim (only p marked) [ inl first ↦ c.loop-i.invariant.only p first | inr here ↦ inr (c.loop-i.i, here) ];
     }
 
 pub returns-clause-roots : goal.returns-clause-roots
-returns-clause-roots c = λ x p is. c.loop-i.invariant.roots x p (omega (arith, strong_place_below c.args.held.now x p is, c.loop-i-test.false)) is
+returns-clause-roots c = λ x p is. c.loop-i.invariant.roots x p (omega (arith, strong_place_below c.args.held.now.history x p is, c.loop-i-test.false)) is

@@ -11,7 +11,7 @@ abbrev pub invariant-loop-i : goal.invariant-loop-i
 invariant-loop-i l = record {
   marks : ListsMarks (with_may l.initial.seat l.seat.may) l.initial.marking l.seat l.marking;
   noted : l.seat.noted ≡ l.initial.seat.noted;
-  looked : LooksOnlyAt (IsSharedPlace l.held) l.initial.seat l.seat;
-  roots : (x p : ℕ) → x < l.i → strong_place l.held x ≡ Some p → holds l.seat.marked p ≡ true;
-  only : (p : ℕ) → holds l.seat.marked p ≡ true → (holds l.initial.seat.marked p ≡ true) ⊎ IsSharedPlace l.held p;
+  looked : LooksOnlyAt (IsSharedPlace l.held.history) l.initial.seat l.seat;
+  roots : (x p : ℕ) → x < l.i → strong_place l.held.history x ≡ Some p → holds l.seat.marked p ≡ true;
+  only : (p : ℕ) → holds l.seat.marked p ≡ true → (holds l.initial.seat.marked p ≡ true) ⊎ IsSharedPlace l.held.history p;
 }

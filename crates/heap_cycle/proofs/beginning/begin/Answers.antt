@@ -18,25 +18,25 @@ looked_at : (s : Parts) (room o : ObjectsView) (r : OwnedView) → room ≡ s.ob
 looked_at s room o r same looked = subst (λ (x : ObjectsView). LooksAgain x s.region r o) same looked
 
 pub end_sweep-requires-clause-ready : goal.end_sweep-requires-clause-ready
-end_sweep-requires-clause-ready c =
+end_sweep-requires-clause-ready g c =
     let s : Parts = c.args.parts.now in
     entered_ready s c.start.new.objects c.start.new.self c.requires.ready c.requires.region c.requires.calm c.in_ok-start.ensures.entered
     (looked_at s c.reserve.new.self c.start.new.objects c.start.new.self c.reserve.ensures c.in_ok-start.ensures.looked) c.orders_keep_valid.ensures
 
 pub mark_roots-requires-clause-placed : goal.mark_roots-requires-clause-placed
-mark_roots-requires-clause-placed c =
+mark_roots-requires-clause-placed g c =
     let s : Parts = c.args.parts.now in
     placed_swept s c.start.new.objects c.start.new.self c.requires.ready c.requires.region c.requires.calm c.in_ok-start.ensures.entered
     (looked_at s c.reserve.new.self c.start.new.objects c.start.new.self c.reserve.ensures c.in_ok-start.ensures.looked) c.end_sweep.new.parts
     c.end_sweep.new.finalised.items c.end_sweep.ensures.idle (ap (λ (p : Parts). p.region) c.end_sweep.ensures.others) c.end_sweep.ensures.swept
 
 pub mark_roots-requires-clause-started : goal.mark_roots-requires-clause-started
-mark_roots-requires-clause-started c =
+mark_roots-requires-clause-started g c =
     ap (λ (p : Parts). is_started p.region.taken) c.end_sweep.ensures.others
     ∙ started_entered O.Start 0 c.args.parts.now.region c.start.new.self c.in_ok-start.ensures.entered
 
 pub returns-clause-begun : goal.returns-clause-begun
-returns-clause-begun c =
+returns-clause-begun g c =
     let s : Parts = c.args.parts.now in
     let r : OwnedView = c.start.new.self in
     let o : ObjectsView = c.start.new.objects in

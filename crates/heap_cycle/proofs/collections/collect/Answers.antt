@@ -64,4 +64,4 @@ pub returns-clause-grown : goal.returns-clause-grown
 returns-clause-grown g c =
     let begun = c.in-Ok.ensures.begun in
     let paused = c.pause-result.ensures.paused 0 (λ none. begun.home) in
-    takes_both c.args.parts.now.region c.begin.new.parts.region c.pause-result.new.parts.region begun.grown paused.grown paused.room
+    takes_both c.args.parts.now.region c.begin.new.parts.region c.pause-result.new.parts.region begun.grown paused.grown

@@ -46,7 +46,6 @@ returns g c = record {
         marking = c.requires.marking;
         region = c.requires.region;
         entry = c.finish-result.ensures.region;
-        room = c.finish-result.ensures.room;
         allowed = c.requires.allowed;
         setup = c.finish-result.ensures.setup;
         paused = subst keeps (ap registry_of c.cycle.view_is) (c.finish-result.ensures.paused s.cycle.rest.may (marking_of s c.requires.ready c.requires.marking));

@@ -9,7 +9,7 @@ use Rattle.heap_engine.proofs.ThreadCommands.{threads_joined}
 use Rattle.heap_engine.proofs.threads.join.Goals as goal
 
 pub returns : goal.returns
-returns c =
+returns g c =
     let s : Parts = c.args.parts.now in
     let whole : c.take_since.new.self ≡ taken_parts s c.join-m.new.objects c.join-m.new.self =
     c.take_since.ensures

@@ -1,23 +1,35 @@
 use Rattle.std.proofs.Common.{ap}
 use Rattle.gc_graph.specs.RegionSteps.{op_of}
-use Rattle.thread_queues.proofs.Calls.{order_called, totals_told, copy_entry, clear_entry, weaken_entry, upgrade_entry}
+use Rattle.thread_queues.proofs.Calls.{order_called, own_stays, totals_told, copy_entry, clear_entry, weaken_entry, upgrade_entry}
 use Rattle.thread_queues.proofs.going.do_order.Goals as goal
 
 pub returns-in-Copy-clause-done : goal.returns-in-Copy-clause-done
-returns-in-Copy-clause-done c =
-    order_called _ _ _ _ _ _ _ _ _ _ (ap op_of c.in-Copy.is) tt (copy_entry c.args.thread c.in-Copy.from c.in-Copy.into) c.requires.own c.copy.ensures.call c.told.ensures
+returns-in-Copy-clause-done g c =
+    order_called _ _ _ _ _ _ _ _ (ap op_of c.in-Copy.is) (copy_entry c.args.thread c.in-Copy.from c.in-Copy.into) c.requires.own.number_is c.told.ensures c.copy.ensures
+
+pub returns-in-Copy-clause-own : goal.returns-in-Copy-clause-own
+returns-in-Copy-clause-own g c = own_stays _ _ _ _ _ _ c.requires.own c.copy.ensures
 
 pub returns-in-Clear-clause-done : goal.returns-in-Clear-clause-done
-returns-in-Clear-clause-done c =
-    order_called _ _ _ _ _ _ _ _ _ _ (ap op_of c.in-Clear.is) tt (clear_entry c.args.thread c.in-Clear.slot) c.requires.own c.clear.ensures.call c.told-in-Clear.ensures
+returns-in-Clear-clause-done g c =
+    order_called _ _ _ _ _ _ _ _ (ap op_of c.in-Clear.is) (clear_entry c.args.thread c.in-Clear.slot) c.requires.own.number_is c.told-in-Clear.ensures c.clear.ensures
+
+pub returns-in-Clear-clause-own : goal.returns-in-Clear-clause-own
+returns-in-Clear-clause-own g c = own_stays _ _ _ _ _ _ c.requires.own c.clear.ensures
 
 pub returns-in-Weaken-clause-done : goal.returns-in-Weaken-clause-done
-returns-in-Weaken-clause-done c =
-    order_called _ _ _ _ _ _ _ _ _ _ (ap op_of c.in-Weaken.is) tt (weaken_entry c.args.thread c.in-Weaken.slot) c.requires.own c.weaken.ensures.call c.told-in-Weaken.ensures
+returns-in-Weaken-clause-done g c =
+    order_called _ _ _ _ _ _ _ _ (ap op_of c.in-Weaken.is) (weaken_entry c.args.thread c.in-Weaken.slot) c.requires.own.number_is c.told-in-Weaken.ensures c.weaken.ensures
+
+pub returns-in-Weaken-clause-own : goal.returns-in-Weaken-clause-own
+returns-in-Weaken-clause-own g c = own_stays _ _ _ _ _ _ c.requires.own c.weaken.ensures
 
 pub returns-in-Upgrade-clause-done : goal.returns-in-Upgrade-clause-done
-returns-in-Upgrade-clause-done c =
-    order_called _ _ _ _ _ _ _ _ _ _ (ap op_of c.in-Upgrade.is) tt (upgrade_entry c.args.thread c.in-Upgrade.from c.in-Upgrade.into) c.requires.own c.upgrade.ensures.call c.told-in-Upgrade.ensures
+returns-in-Upgrade-clause-done g c =
+    order_called _ _ _ _ _ _ _ _ (ap op_of c.in-Upgrade.is) (upgrade_entry c.args.thread c.in-Upgrade.from c.in-Upgrade.into) c.requires.own.number_is c.told-in-Upgrade.ensures c.upgrade.ensures
+
+pub returns-in-Upgrade-clause-own : goal.returns-in-Upgrade-clause-own
+returns-in-Upgrade-clause-own g c = own_stays _ _ _ _ _ _ c.requires.own c.upgrade.ensures
 
 pub returns-in-Totals-clause-done : goal.returns-in-Totals-clause-done
-returns-in-Totals-clause-done c = totals_told _ _ _ _ c.in-Totals.is
+returns-in-Totals-clause-done g c = totals_told _ _ _ _ c.in-Totals.is

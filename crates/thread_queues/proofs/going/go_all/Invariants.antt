@@ -1,5 +1,4 @@
 use Rattle.std.proofs.Common.{◌≡◌, ◌+◌, All, Contains, length, take, vec_capacity}
-use Rattle.cross_thread_region.specs.Calls.{free_history}
 use Rattle.thread_queues.specs.Queues.{orders_of, replies_of, threads_in}
 use Rattle.thread_queues.specs.Going.{IsFirst}
 use Rattle.thread_queues.specs.Orders.{HasOutBelow}
@@ -7,8 +6,8 @@ use Rattle.thread_queues.proofs.Through.{HaveGoneTo}
 use Rattle.thread_queues.proofs.going.go_all.Given as goal
 
 abbrev pub invariant-loop-i : goal.invariant-loop-i
-invariant-loop-i l = record {
-  gone : HaveGoneTo (orders_of l.fn.queues.items) l.i l.totals (free_history l.fn.region) (free_history l.region) (replies_of (take l.i l.queues.items));
+invariant-loop-i g l = record {
+  gone : HaveGoneTo (orders_of l.fn.queues.items) l.i l.totals l.fn.pass.seen l.passes.items (replies_of (take l.i l.queues.items));
   orders : orders_of l.queues.items ≡ orders_of l.fn.queues.items;
   eight : length l.queues.items ≡ 8;
   pass : l.pass ≡ record l.fn.pass { out = l.pass.out };

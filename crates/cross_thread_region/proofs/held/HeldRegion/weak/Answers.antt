@@ -6,6 +6,6 @@ use Rattle.cross_thread_region.proofs.held.HeldRegion.weak.Goals as goal
 
 pub returns : goal.returns
 returns c =
-    let asked : c.asked.result ≡ get_or (weak_places c.args.self.now) c.args.i None = search rules in
-    let inside : c.args.i < length (slots_of c.args.self.now) = omega (arith, c.requires, slots_len c.args.self.now) in
-    asked ∙ get_or-map-range_with_len (weak_place c.args.self.now) 0 (length (slots_of c.args.self.now)) c.args.i c.args.i None inside (omega arith)
+    let asked : c.asked.result ≡ get_or (weak_places c.args.self.now.history) c.args.i None = search rules in
+    let inside : c.args.i < length (slots_of c.args.self.now.history) = omega (arith, c.requires, slots_len c.args.self.now.history) in
+    asked ∙ get_or-map-range_with_len (weak_place c.args.self.now.history) 0 (length (slots_of c.args.self.now.history)) c.args.i c.args.i None inside (omega arith)

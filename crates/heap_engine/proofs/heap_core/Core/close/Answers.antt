@@ -3,6 +3,3 @@ use Rattle.heap_engine.proofs.heap_core.Core.close.Goals as goal
 pub returns-clause-line : goal.returns-clause-line
 returns-clause-line g c =
     rw (← c.self.view_is) (c.totals-n.result.2, c.totals-n.ensures.pages, rw (c.totals-n.ensures.objects, c.totals-n.ensures.used))
-
-pub returns-clause-begun : goal.returns-clause-begun
-returns-clause-begun g c = rw (← c.self.view_is) c.orders_are_begun.ensures

@@ -5,9 +5,6 @@ use Rattle.heap_cycle.specs.Printed.{Printed, outcome_lines}
 use Rattle.heap_engine.proofs.ThreadsTold.{get_first, get_later}
 use Rattle.heap_engine.proofs.heap_core.Core.line.Goals as goal
 
-pub told_count-told-requires : goal.told_count-told-requires
-told_count-told-requires c = omega (arith, c.self.invariant.few, c.self.invariant.most)
-
 pub returns-then-index-told-clause-line : goal.returns-then-index-told-clause-line
 returns-then-index-told-clause-line c =
     rw (← c.self.view_is)

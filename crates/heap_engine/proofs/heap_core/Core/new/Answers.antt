@@ -1,4 +1,4 @@
-use Rattle.std.proofs.Common.{◌≡◌, ◌*◌, ◌≤◌, ◌++◌, All, inl, length, sym, ap, ◌∙◌, subst, arith}
+use Rattle.std.proofs.Common.{◌≡◌, ◌≤◌, ◌++◌, All, inl, length, sym, ap, ◌∙◌, subst, arith}
 use Rattle.std.proofs.lemmas.Bool.{true≢false}
 use Rattle.std.proofs.lemmas.List.Elements.{All-nil}
 use Rattle.gc_graph.specs.State.{Shape}
@@ -37,7 +37,6 @@ invariant_of-result d c =
       most = subst (λ (s : Parts). s.cycle.rest.ordinal ≤ 1000000) (sym (are_empty d c)) (omega arith);
       made = subst (λ (s : Parts). length s.objects.nodes ≤ s.cycle.rest.ordinal) (sym (are_empty d c)) (omega arith);
       region = λ opened. region_empty parts heap shape c.args.config.markers c.args.types (callback_kinds c.args.callbacks.now) (are_empty d c);
-      few = subst (λ (s : Parts). s.region.room ≤ 2 * s.cycle.rest.ordinal) (sym (are_empty d c)) (omega arith);
       none_out = λ still. ap (λ (s : Parts). s.region.out) (are_empty d c);
       totals = λ awaits. absurd (true≢false (sym awaits ∙ ap (λ (s : Parts). s.region.awaiting) (are_empty d c)));
       replies = subst (λ (s : Parts). All IsToldLine s.region.told) (sym (are_empty d c)) (All-nil IsToldLine);

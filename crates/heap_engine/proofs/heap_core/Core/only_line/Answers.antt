@@ -2,9 +2,6 @@ use Rattle.std.proofs.Common.{arith}
 use Rattle.heap_engine.proofs.ThreadsTold.{joined_long}
 use Rattle.heap_engine.proofs.heap_core.Core.only_line.Goals as goal
 
-pub told_count-requires : goal.told_count-requires
-told_count-requires c = omega (arith, c.self.invariant.few, c.self.invariant.most)
-
 pub returns-then-told_count-gt0-clause-none : goal.returns-then-told_count-gt0-clause-none
 returns-then-told_count-gt0-clause-none c =
     rw (← c.self.view_is)

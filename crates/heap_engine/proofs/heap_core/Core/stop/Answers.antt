@@ -1,21 +1,19 @@
-use Rattle.std.proofs.Common.{true, ap, ◌∙◌}
+use Rattle.std.proofs.Common.{◌≡◌, ℕ, ap, ◌∙◌, subst}
+use Rattle.std.specs.List.{Contains}
 use Rattle.heap_cycle.specs.declared.parts.Parts.{Parts}
-use Rattle.heap_engine.specs.Sound.{view_of}
+use Rattle.heap_cycle.specs.Owned.{HasBegun, OwnedView}
+use Rattle.heap_engine.specs.declared.heap_core.Core.TheInside.{Inside}
+use Rattle.heap_engine.proofs.heap_core.Core.stop.Given as given
 use Rattle.heap_engine.proofs.heap_core.Core.stop.Goals as goal
+use Rattle.heap_engine.proofs.heap_core.Core.stop.Goals.{then-not-self, else-not-self}
 
-pub returns-then-self : goal.returns-then-self
-returns-then-self g c =
-    let last = c.self.invariant.joined_at_last c.if-self.true in
-    record {
-      closed = rw (← c.self.view_is)
-          (ap (λ b. record (view_of c.self.inside) { closed = b }) c.if-self.true
-          ∙ ap (λ n. record (view_of c.self.inside) { closed = true; lent = n }) last.1
-          ∙ ap (λ out. record (view_of c.self.inside) { closed = true; lent = 0; out = out }) last.2);
-    }
+-- markers that are joined leave the region
+region_stays : (g : given.Over) (c : goal.After-self-1 g) → c.if-not-self.self-inside.parts.region ≡ c.self.inside.parts.region
+region_stays g c = elim c.if-not-self.branch [
+  | then-not-self w ↦ ap (λ (h : Inside). h.parts.region) w.self-inside-is ∙ ap (λ (p : Parts). p.region) w.dismiss.ensures.others
+  | else-not-self w ↦ ap (λ (h : Inside). h.parts.region) w.self-inside-is
+]
 
-pub dismiss-requires : goal.dismiss-requires
-dismiss-requires g c = record { tied = (c.self.invariant.ready c.if-self.false).tied }
-
--- the parts with the region as it was
-abbrev before_close : Parts → Parts → Parts
-before_close s t = record t { region = s.region }
+pub returns-clause-begun : goal.returns-clause-begun
+returns-clause-begun g c =
+    rw (← c.self.view_is) (subst (λ (v : OwnedView). (j : ℕ) → Contains v.running j → HasBegun v j) (region_stays g c) c.close.ensures.begun)

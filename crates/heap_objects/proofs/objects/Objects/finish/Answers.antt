@@ -173,8 +173,8 @@ pub returns-clause-paused : goal.returns-clause-paused
 returns-clause-paused g c =
     let kinds : callback_kinds c.args.callbacks.now ≡ c.self.inside.kinds.value = rw (← c.self.view_is) at c.requires.kinds in
     rw (← c.self.view_is) (λ slots may named marks.
-    subst (λ ks. IsPaused ks (slot_targets slots ++ shared_roots c.pause-result.new.parts.1.1.1.1.1.1.0 ++ hits_in c.args.precise c.self.inside.nodes.value c.args.stack.now)
-    (members may ++ shared_roots c.pause-result.new.parts.1.1.1.1.1.1.0 ++ hits_in c.args.precise c.self.inside.nodes.value c.args.stack.now) c.self.inside.nodes.value c.pause-result.new.parts.1.0.value c.args.registry.now c.pause-result.new.parts.1.1.1.1.0)
+    subst (λ ks. IsPaused ks (slot_targets slots ++ shared_roots c.pause-result.new.parts.1.1.1.1.1.0 ++ hits_in c.args.precise c.self.inside.nodes.value c.args.stack.now)
+    (members may ++ shared_roots c.pause-result.new.parts.1.1.1.1.1.0 ++ hits_in c.args.precise c.self.inside.nodes.value c.args.stack.now) c.self.inside.nodes.value c.pause-result.new.parts.1.0.value c.args.registry.now c.pause-result.new.parts.1.1.1.1.0)
     kinds (c.pause-result.ensures.paused slots may named (may_joined c.self.inside.nodes.value c.self.inside.seat c.gather-crew.new.seat may c.gather-crew.ensures.joined.same marks.may_is)))
 
 pub returns-clause-sizes : goal.returns-clause-sizes

@@ -1,21 +1,46 @@
-use Rattle.std.proofs.Common.{ℕ, true, sym, subst}
+use Rattle.std.proofs.Common.{◌≡◌, ℕ, not, true, false, [], Option, Some, None, refl, sym, ap, ◌∙◌, subst}
+use Rattle.std.specs.Prelude.{is_some}
 use Rattle.std.specs.List.{Contains}
-use Rattle.cross_thread_region.specs.Calls.{PassView}
-use Rattle.thread_queues.specs.Going.{IsFirst}
+use Rattle.std.proofs.lemmas.Bool.{true≢false}
+use Rattle.cross_thread_region.specs.Calls.{HeldView, PassView}
 use Rattle.thread_queues.specs.Queues.{QueuesView}
-use Rattle.heap_region.specs.Inside.{IsOwned}
+use Rattle.heap_region.specs.declared.owned.OwnedRegion.TheInside.{Inside}
 use Rattle.heap_region.specs.Owned.{OwnedView, HasBegun}
-use Rattle.heap_region.proofs.Begun.{begun}
-use Rattle.heap_region.proofs.Closed.{stays_owned}
-use Rattle.heap_region.proofs.Taken.{all_seen}
+use Rattle.heap_region.proofs.Closed.{all_begun, closed_held, closed_joined}
+use Rattle.heap_region.proofs.Fields.{AreOwned}
 use Rattle.heap_region.proofs.owned.OwnedRegion.close.Goals as goal
+use Rattle.heap_region.proofs.owned.OwnedRegion.close.Goals.{then-is_none, else-is_none}
+
+nothing : (held : Option HeldView) → is_some held ≡ false → held ≡ None
+nothing None is = refl
+nothing (Some h) is = absurd (true≢false is)
+
+something : (held : Option HeldView) → is_some held ≡ true → (h : HeldView) × (held ≡ Some h)
+something None is = absurd (true≢false (sym is))
+something (Some h) is = (h, refl)
 
 pub invariant_of-self : goal.invariant_of-self
 invariant_of-self c =
-    let s = c.self.inside in
-    subst (λ (pass : PassView). IsOwned s.region pass c.dismiss.new.self s.mirror s.totals s.printed s.shown true) (sym c.dismiss.ensures.pass)
-    (subst (λ (queues : QueuesView). IsOwned s.region (all_seen s.region s.pass) queues s.mirror s.totals s.printed s.shown true) (sym c.dismiss.ensures.dismissed)
-    (stays_owned c.self.invariant (subst (IsFirst s.region) c.dismiss.ensures.pass c.dismiss.ensures.first)))
+    let r = c.self.inside in
+    elim c.if-is_none.branch [
+      | then-is_none w ↦
+          subst (λ (x : Inside). AreOwned (record x { closed = true })) (sym w.self-inside-is)
+          (subst (λ (pass : PassView). AreOwned (record r { pass = pass; threads = w.dismiss.new.self; closed = true })) (sym w.dismiss.ensures.pass)
+          (subst (λ (queues : QueuesView). AreOwned (record r { pass = record r.pass { seen = w.dismiss.new.pass.seen; out = [] }; threads = queues; closed = true }))
+          (sym w.dismiss.ensures.dismissed)
+          (closed_joined r c.self.invariant (nothing r.held (c.is_none.ensures ∙ ap not w.if-is_none.true)) w.dismiss.new.pass.seen w.dismiss.ensures.met)))
+      | else-is_none w ↦
+          let held = something r.held (c.is_none.ensures ∙ ap not w.if-is_none.false) in
+          subst (λ (x : Inside). AreOwned (record x { closed = true })) (sym w.self-inside-is) (closed_held r c.self.invariant held.0 held.1)
+    ]
 
 pub returns-clause-begun : goal.returns-clause-begun
-returns-clause-begun c = subst (λ (v : OwnedView). (j : ℕ) → Contains v.running j → HasBegun v j) c.self.view_is (begun c.self.invariant)
+returns-clause-begun c =
+    let r = c.self.inside in
+    subst (λ (v : OwnedView). (j : ℕ) → Contains v.running j → HasBegun v j) c.self.view_is
+    (all_begun r c.self.invariant (λ awaits opened. elim c.if-is_none.branch [
+      | then-is_none w ↦ (w.dismiss.new.pass.seen, w.dismiss.ensures.met)
+      | else-is_none w ↦
+          let held = something r.held (c.is_none.ensures ∙ ap not w.if-is_none.false) in
+          absurd (true≢false (sym awaits ∙ (c.self.invariant.holds held.0 held.1).joined))
+    ]))

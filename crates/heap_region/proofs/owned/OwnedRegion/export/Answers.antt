@@ -1,60 +1,65 @@
-use Rattle.std.proofs.Common.{ap, arith}
+use Rattle.std.proofs.Common.{◌≡◌, false, None, ap, sym, ◌∙◌, subst}
 use Rattle.gc_graph.specs.declared.region.Op.{Op}
 use Rattle.gc_graph.specs.declared.region.Op.TheVariants as O
-use Rattle.cross_thread_region.specs.Calls.{free_history}
-use Rattle.cross_thread_region.specs.NextEntries.{started_next}
-use Rattle.heap_region.proofs.CallEnds.{HasCalled, has_ended, looks_again, may_take}
-use Rattle.heap_region.proofs.Fields.{own_entry}
-use Rattle.heap_region.proofs.Made.{made_call}
-use Rattle.heap_region.proofs.MayBeTaken.{MayBeTaken}
-use Rattle.heap_region.proofs.OwnedOn.{room_for_pause}
+use Rattle.heap_region.specs.Calls.{HasEntered}
+use Rattle.heap_region.specs.Handled.{IsHandled, LooksAgain}
+use Rattle.heap_region.specs.Owned.{OwnedView}
+use Rattle.heap_region.proofs.CallEnds.{HasLookedOn, HasMade, few_taken, has_entered, has_made, looks_again, may_look, stays_owned, still_ready}
+use Rattle.heap_region.proofs.Fields.{called_fields, owned_view}
+use Rattle.heap_region.proofs.OwnedOn.{not_held}
+use Rattle.heap_region.proofs.Refused.{still_owned}
+use Rattle.heap_region.proofs.owned.OwnedRegion.export.Given as given
 use Rattle.heap_region.proofs.owned.OwnedRegion.export.Goals as goal
 use Rattle.heap_region.proofs.owned.OwnedRegion.export.Goals.{In_default}
 
-abbrev op : In_default → Op
-op c = O.Export c.args.slot c.args.number
+abbrev op : (g : given.Over) → In_default g → Op
+op g c = O.Export c.args.slot c.args.number
 
-called : (c : In_default) → HasCalled c.self.inside c.args.self.now (op c) c.args.place 1 c.export.new.self c.export.new.pass c.make_room.new.self
-called c = record {
-  view = c.self.view_is;
-  owned = c.self.invariant;
-  opened = c.requires.opened;
-  legal = c.is_legal.ensures.legal;
-  right = c.is_legal.ensures.right;
-  made = made_call c.self.inside.region c.self.inside.pass c.self.inside.threads (op c) c.args.place c.export.result c.export.new.self c.export.new.pass
-      c.self.invariant.first c.self.invariant.outs c.export.ensures.call c.in_default.not-NoMemory c.export.ensures.stays;
-  roomed = c.in_ok-make_room.ensures.made;
-  enough = omega (arith, ap room_for_pause (started_next (free_history c.self.inside.region) (own_entry c.self.inside (op c) c.args.place)));
-  most = omega arith;
-}
+opened : (g : given.Over) (c : In_default g) → c.self.inside.closed ≡ false
+opened g c = ap (λ (v : OwnedView). v.closed) c.self.view_is ∙ c.requires.opened
 
-pub take_seen-requires : goal.take_seen-requires
-take_seen-requires c =
-    let at : In_default = (goal.at.take_seen-requires c).In_default in
-    let may : MayBeTaken c.args.objects.now.nodes c.make_room.new.self c.export.new.pass =
-    may_take c.self.inside c.args.self.now (op at) c.args.place 1 c.export.new.self c.export.new.pass c.make_room.new.self c.args.objects.now.nodes (called at)
-    c.requires.handled in
-    record { ready = c.export.ensures.stays.ready; few = may.few; kept = may.kept; room = may.room; valid = c.requires.valid; handled = may.handled }
+quiet : (g : given.Over) (c : In_default g) → c.self.inside.held ≡ None
+quiet g c = not_held c.self.inside c.self.invariant (ap (λ (v : OwnedView). v.told) c.self.view_is ∙ c.requires.quiet)
+
+made : (g : given.Over) (c : In_default g) → HasMade c.self.inside (op g c) c.args.place c.export.new.pass
+made g c = has_made c.self.inside (op g c) c.args.place c.export.result c.export.new.pass c.self.invariant (opened g c) (quiet g c) c.export.ensures c.in_default.not-NoMemory
+
+pub invariant_of-self : goal.invariant_of-self
+invariant_of-self g c =
+    still_owned c.self.inside c.self.invariant (not_held c.self.inside c.self.invariant (ap (λ (v : OwnedView). v.told) c.self.view_is ∙ c.requires.quiet))
+    (ap (λ (v : OwnedView). v.closed) c.self.view_is ∙ c.requires.opened) (O.Export c.args.slot c.args.number) (c.args.place) c.export.result c.export.new.pass c.export.ensures c.in-NoMemory.is
+
+pub look_at_seen-self-inside-requires : goal.look_at_seen-self-inside-requires
+look_at_seen-self-inside-requires g c =
+    let at : In_default g = (goal.at.look_at_seen-self-inside-requires g c).In_default in
+    let is : HasMade c.self.inside (op g at) (c.args.place) c.export.new.pass = made g at in
+    record {
+      ready = still_ready is;
+      few = few_taken is;
+      valid = c.requires.valid;
+      handled = may_look is c.args.objects.now.nodes (subst (λ (v : OwnedView). IsHandled c.args.objects.now.nodes v.taken) (sym c.self.view_is) c.requires.handled);
+    }
 
 pub invariant_of-self-in_default : goal.invariant_of-self-in_default
-invariant_of-self-in_default c =
-    let at : In_default = (goal.at.invariant_of-self-in_default c).In_default in (
-    has_ended c.self.inside c.args.self.now (op at) c.args.place 1 c.export.new.self c.export.new.pass c.make_room.new.self c.take_seen.new.pass
-    c.take_seen.new.mirror (called at) c.take_seen.ensures.pass c.take_seen.ensures.mirror
-    ).owned
+invariant_of-self-in_default g c =
+    let at : In_default g = (goal.at.invariant_of-self-in_default g c).In_default in
+    let on : HasLookedOn c.export.new.pass c.look_at_seen-self-inside.new.pass =
+    record { found = c.look_at_seen-self-inside.ensures.found; pass = c.look_at_seen-self-inside.ensures.pass } in
+    stays_owned (made g at) on c.look_at_seen-self-inside.result c.look_at_seen-self-inside.ensures.count
 
 pub returns-in_default : goal.returns-in_default
-returns-in_default c =
-    let at : In_default = (goal.at.returns-in_default c).In_default in
-    let ended =
-    has_ended c.self.inside c.args.self.now (op at) c.args.place 1 c.export.new.self c.export.new.pass c.make_room.new.self c.take_seen.new.pass
-    c.take_seen.new.mirror (called at) c.take_seen.ensures.pass c.take_seen.ensures.mirror in
+returns-in_default g c =
+    let at : In_default g = (goal.at.returns-in_default g c).In_default in
+    let on : HasLookedOn c.export.new.pass c.look_at_seen-self-inside.new.pass =
+    record { found = c.look_at_seen-self-inside.ensures.found; pass = c.look_at_seen-self-inside.ensures.pass } in
+    let r = c.self.inside in
+    let new : OwnedView = owned_view (called_fields r c.look_at_seen-self-inside.new.pass c.look_at_seen-self-inside.result) in
     record {
-      entered = ended.entered;
-      looked =
-          looks_again c.self.inside c.args.self.now (op at) c.args.place 1 c.export.new.self c.export.new.pass c.make_room.new.self c.take_seen.new.pass
-          c.take_seen.new.mirror c.args.objects.now c.take_seen.new.objects (called at) c.take_seen.ensures.pass c.take_seen.ensures.mirror
-          c.take_seen.ensures.looked;
+      entered = subst (λ (v : OwnedView). HasEntered (op g at) (c.args.place) v new) c.self.view_is
+          (has_entered (made g at) on c.look_at_seen-self-inside.result c.look_at_seen-self-inside.ensures.count);
+      looked = subst (λ (v : OwnedView). LooksAgain c.args.objects.now v new c.look_at_seen-self-inside.new.objects) c.self.view_is
+          (looks_again (made g at) on c.look_at_seen-self-inside.result c.look_at_seen-self-inside.ensures.count c.args.objects.now
+          c.look_at_seen-self-inside.new.objects c.look_at_seen-self-inside.ensures.looked);
       same = tt;
       objects = tt;
     }

@@ -1,11 +1,17 @@
-use Rattle.std.proofs.Common.{ap, ◌∙◌}
+use Rattle.std.proofs.Common.{sym, ap, ◌∙◌, subst}
+use Rattle.cross_thread_region.specs.Calls.{PassView}
+use Rattle.thread_queues.specs.Going.{AreOut}
 use Rattle.heap_region.specs.Owned.{OwnedView}
+use Rattle.heap_region.proofs.Fields.{AreOwned}
 use Rattle.heap_region.proofs.Gone.{has_gone}
+use Rattle.heap_region.proofs.OwnedOn.{not_held}
 use Rattle.heap_region.proofs.owned.OwnedRegion.go.Goals as goal
 
 pub invariant_of-self : goal.invariant_of-self
-invariant_of-self c =
+invariant_of-self g c =
+    let r = c.self.inside in
     let went = c.go.ensures in
-    has_gone c.self.invariant (ap (λ (v : OwnedView). v.awaiting) c.self.view_is ∙ c.requires.joined)
-    c.go.new.region c.go.new.pass c.go.new.self c.args.totals went.queues went.running went.awaiting went.went
-    went.few went.few_entries went.pass went.first went.outs
+    subst (λ (pass : PassView). AreOwned (record r { pass = pass; threads = c.go.new.self; totals = c.args.totals })) (sym went.pass)
+    (has_gone r c.self.invariant (ap (λ (v : OwnedView). v.awaiting) c.self.view_is ∙ c.requires.joined) (ap (λ (v : OwnedView). v.closed) c.self.view_is ∙ c.requires.opened)
+    (not_held r c.self.invariant (ap (λ (v : OwnedView). v.told) c.self.view_is ∙ c.requires.quiet)) c.go.new.self c.args.totals c.go.new.pass.out went.queues
+    went.running went.awaiting went.went (subst (λ (pass : PassView). AreOut r.region pass c.go.new.self) went.pass went.outs))

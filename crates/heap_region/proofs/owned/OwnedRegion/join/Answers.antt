@@ -1,55 +1,74 @@
-use Rattle.std.proofs.Common.{◌≡◌, true, false, length, take, sym, ap, ◌∙◌, subst}
-use Rattle.std.specs.List.{sum_by}
-use Rattle.cross_thread_region.specs.Calls.{PassView}
-use Rattle.thread_queues.specs.Going.{IsFirst}
-use Rattle.thread_queues.specs.Queues.{QueuesView}
+use Rattle.std.proofs.Common.{◌≡◌, ◌+◌, ◌-◌, ◌<◌, length, Option, None, sym, ap, ◌∙◌, subst, arith}
+use Rattle.cross_thread_region.specs.Calls.{HeldView}
 use Rattle.heap_region.specs.Calls.{HasJoined}
 use Rattle.heap_region.specs.Handled.{IsHandled, LooksAgain}
-use Rattle.heap_region.specs.Inside.{IsOwned, taken_by}
 use Rattle.heap_region.specs.Owned.{OwnedView}
-use Rattle.heap_region.proofs.Fields.{view_of_fields}
-use Rattle.heap_region.proofs.Joined.{handled_between, has_joined, has_looked, joined_as, joined_view, stays_owned}
+use Rattle.heap_region.proofs.Fields.{owned_view}
+use Rattle.heap_region.proofs.JoinEnds.{HasMet, ended_fields, joined_ended, joined_kept, kept_fields, looked_kept, may_look, turn_kept}
+use Rattle.heap_region.proofs.OwnedOn.{not_held_yet}
+use Rattle.heap_region.proofs.owned.OwnedRegion.join.Given as given
 use Rattle.heap_region.proofs.owned.OwnedRegion.join.Goals as goal
+use Rattle.heap_region.proofs.owned.OwnedRegion.join.Goals.{After-look-held, in-Some-1, in-None-1}
 
-pub take_seen-requires-clause-handled : goal.take_seen-requires-clause-handled
-take_seen-requires-clause-handled c = λ k above below.
-    (let s = c.self.inside in
-    let opened : s.closed ≡ false = ap (λ (v : OwnedView). v.closed) c.self.view_is ∙ c.requires.opened in
-    let handled : IsHandled c.args.objects.now.nodes (taken_by s.pass s.mirror) =
-    subst (λ (v : OwnedView). IsHandled c.args.objects.now.nodes v.taken) (sym c.self.view_is) c.requires.handled in
-    subst (λ (p : PassView). IsHandled c.args.objects.now.nodes (take k p.seen)) (sym c.join-count.ensures.pass)
-    (handled_between c.self.invariant opened c.is_legal.ensures.right c.args.objects.now.nodes handled k above))
+met : (g : given.Over) (c : After-look-held g) → HasMet c.self.inside c.join-count.new.self c.join-count.new.pass c.look-held.result c.look-held.new.pass
+met g c = record {
+  owned = c.self.invariant;
+  opened = ap (λ (v : OwnedView). v.closed) c.self.view_is ∙ c.requires.opened;
+  awaits = ap (λ (v : OwnedView). v.awaiting) c.self.view_is ∙ c.requires.awaited;
+  mid_is = c.join-count.ensures.pass;
+  met = c.join-count.ensures.met;
+  legal = c.is_legal.ensures.legal;
+  right = c.is_legal.ensures.right;
+  left_is = c.join-count.ensures.joined;
+  finds = c.look-held.ensures.found;
+  looking_is = c.look-held.ensures.pass;
+}
 
-pub invariant_of-self : goal.invariant_of-self
-invariant_of-self c =
-    let s = c.self.inside in
-    let awaits : s.threads.awaiting ≡ true = ap (λ (v : OwnedView). v.awaiting) c.self.view_is ∙ c.requires.awaited in
-    joined_as c.self.invariant (λ pass queues mirror count. IsOwned s.region pass queues mirror s.totals count s.printed s.closed)
-    c.take_seen.new.pass c.join-count.new.pass c.join-count.new.self c.take_seen.new.mirror c.len-self-inside.result
-    c.join-count.ensures.pass c.join-count.ensures.joined c.take_seen.ensures.pass c.take_seen.ensures.mirror c.len-self-inside.ensures
-    (stays_owned c.self.invariant (subst (IsFirst s.region) c.join-count.ensures.pass c.join-count.ensures.first) awaits
-    (ap (λ (q : QueuesView). sum_by length q.queues) (sym c.join-count.ensures.joined) ∙ c.join-count.ensures.left))
+pub look_again-requires-clause-handled : goal.look_again-requires-clause-handled
+look_again-requires-clause-handled g c k above below =
+    may_look (met g ((goal.at.look_again-requires-clause-handled g c).After-look-held)) c.args.objects.now.nodes
+    (subst (λ (v : OwnedView). IsHandled c.args.objects.now.nodes v.taken) (sym c.self.view_is) c.requires.handled) k above (omega (arith, below, c.len-taken.ensures.count))
 
-pub returns-clause-joined : goal.returns-clause-joined
-returns-clause-joined c =
-    let s = c.self.inside in
-    let opened : s.closed ≡ false = ap (λ (v : OwnedView). v.closed) c.self.view_is ∙ c.requires.opened in
-    let awaits : s.threads.awaiting ≡ true = ap (λ (v : OwnedView). v.awaiting) c.self.view_is ∙ c.requires.awaited in
-    joined_as c.self.invariant
-    (λ pass queues mirror count. HasJoined c.args.self.now (view_of_fields pass queues mirror s.totals count s.printed true s.closed) c.join-count.result)
-    c.take_seen.new.pass c.join-count.new.pass c.join-count.new.self c.take_seen.new.mirror c.len-self-inside.result
-    c.join-count.ensures.pass c.join-count.ensures.joined c.take_seen.ensures.pass c.take_seen.ensures.mirror c.len-self-inside.ensures
-    (subst (λ (v : OwnedView). HasJoined v (joined_view c.self.invariant) c.join-count.result) c.self.view_is
-    (subst (HasJoined _ (joined_view c.self.invariant)) (sym c.join-count.ensures.count)
-    (has_joined c.self.invariant opened c.is_legal.ensures.right s.telling c.is_legal.ensures.legal awaits)))
+pub invariant_of-self-then-lines-gt0-2 : goal.invariant_of-self-then-lines-gt0-2
+invariant_of-self-then-lines-gt0-2 g c =
+    turn_kept (met g ((goal.at.invariant_of-self-then-lines-gt0-2 g c).After-look-held)) c.len-taken.result c.len-taken.ensures.count
+    (subst (λ n. 0 < n + (c.len-taken.result - c.self.inside.printed)) (c.reply_count.ensures.count ∙ ap (λ q. length q.replies) c.join-count.ensures.joined) (omega (arith, c.if-lines-gt0.true)))
 
-pub returns-clause-looked : goal.returns-clause-looked
-returns-clause-looked c =
-    let s = c.self.inside in
-    joined_as c.self.invariant
-    (λ pass queues mirror count. LooksAgain c.args.objects.now c.args.self.now (view_of_fields pass queues mirror s.totals count s.printed true s.closed) c.take_seen.new.objects)
-    c.take_seen.new.pass c.join-count.new.pass c.join-count.new.self c.take_seen.new.mirror c.len-self-inside.result
-    c.join-count.ensures.pass c.join-count.ensures.joined c.take_seen.ensures.pass c.take_seen.ensures.mirror c.len-self-inside.ensures
-    (subst (λ (v : OwnedView). LooksAgain c.args.objects.now v (joined_view c.self.invariant) c.take_seen.new.objects) c.self.view_is
-    (has_looked c.self.invariant c.args.objects.now c.take_seen.new.objects c.join-count.new.pass s.telling
-    c.join-count.ensures.pass c.take_seen.ensures.looked))
+pub returns-then-lines-gt0-clause-joined : goal.returns-then-lines-gt0-clause-joined
+returns-then-lines-gt0-clause-joined g c =
+    let m = met g ((goal.at.returns-then-lines-gt0-clause-joined g c).After-look-held) in
+    let new : OwnedView = owned_view (kept_fields m c.len-taken.result c.len-taken.ensures.count) in
+    let joined : HasJoined c.args.self.now new c.join-count.result =
+    subst (HasJoined c.args.self.now new) (sym c.join-count.ensures.count)
+    (subst (λ (v : OwnedView). HasJoined v new (length c.self.inside.threads.running)) c.self.view_is (joined_kept m c.len-taken.result c.len-taken.ensures.count)) in
+    elim c.match-self.branch [
+      | in-Some-1 w ↦ subst (λ (v : OwnedView). HasJoined c.args.self.now v c.join-count.result) (sym w.self-is) joined
+      | in-None-1 w ↦ subst (λ (v : OwnedView). HasJoined c.args.self.now v c.join-count.result) (sym w.self-is) joined
+    ]
+
+pub returns-then-lines-gt0-clause-looked : goal.returns-then-lines-gt0-clause-looked
+returns-then-lines-gt0-clause-looked g c =
+    let m = met g ((goal.at.returns-then-lines-gt0-clause-looked g c).After-look-held) in
+    let new : OwnedView = owned_view (kept_fields m c.len-taken.result c.len-taken.ensures.count) in
+    let looked : LooksAgain c.args.objects.now c.args.self.now new c.look_again.new.objects =
+    subst (λ (v : OwnedView). LooksAgain c.args.objects.now v new c.look_again.new.objects) c.self.view_is
+    (looked_kept m c.len-taken.result c.len-taken.ensures.count c.args.objects.now c.look_again.new.objects c.look_again.ensures) in
+    elim c.match-self.branch [
+      | in-Some-1 w ↦ subst (λ (v : OwnedView). LooksAgain c.args.objects.now c.args.self.now v c.look_again.new.objects) (sym w.self-is) looked
+      | in-None-1 w ↦ subst (λ (v : OwnedView). LooksAgain c.args.objects.now c.args.self.now v c.look_again.new.objects) (sym w.self-is) looked
+    ]
+
+none_kept : (g : given.Over) (c : After-look-held g) → c.self.inside.held ≡ None
+none_kept g c = not_held_yet c.self.inside c.self.invariant (ap (λ (v : OwnedView). v.awaiting) c.self.view_is ∙ c.requires.awaited)
+
+pub returns-else-lines-gt0-clause-joined : goal.returns-else-lines-gt0-clause-joined
+returns-else-lines-gt0-clause-joined g c =
+    let at : After-look-held g = (goal.at.returns-else-lines-gt0-clause-joined g c).After-look-held in
+    let r = c.self.inside in
+    let ended = ended_fields (met g at) c.len-taken.result c.len-taken.ensures.count c.end_look.new.pass in
+    let none : length r.threads.replies + (c.len-taken.result - r.printed) ≡ 0 =
+    ap (λ n. n + (c.len-taken.result - r.printed)) (sym (c.reply_count.ensures.count ∙ ap (λ q. length q.replies) c.join-count.ensures.joined)) ∙ omega (arith, c.if-lines-gt0.false) in
+    subst (λ (held : Option HeldView). HasJoined c.args.self.now (owned_view (record ended { held = held })) c.join-count.result) (sym (none_kept g at))
+    (subst (HasJoined c.args.self.now (owned_view ended)) (sym c.join-count.ensures.count)
+    (subst (λ (v : OwnedView). HasJoined v (owned_view ended) (length r.threads.running)) c.self.view_is
+    (joined_ended (met g at) c.len-taken.result c.len-taken.ensures.count c.end_look.new.pass c.end_look.ensures none)))

@@ -1,18 +1,16 @@
 use Rattle.std.proofs.Common.{◌≡◌, ◌≤◌, ◌^◌, All, length, take, vec_capacity}
 use Rattle.gc_graph.specs.Lawful.{IsAllowedOrder}
-use Rattle.cross_thread_region.specs.Calls.{free_history}
-use Rattle.thread_queues.specs.Orders.{IsOwn, OthersStay, ThreadDone}
+use Rattle.thread_queues.specs.Orders.{IsOwn, ThreadDone}
 use Rattle.thread_queues.proofs.queue.Queue.do_orders.Given as goal
 
 abbrev pub invariant-loop-i : goal.invariant-loop-i
-invariant-loop-i l = record {
-  done : ThreadDone l.thread (take l.i l.self-inside.orders.items) l.totals (free_history l.fn.region) (free_history l.region) l.self-inside.replies.items;
+invariant-loop-i g l = record {
+  done : ThreadDone l.thread (take l.i l.self-inside.orders.items) l.totals l.fn.own.seen l.own.seen l.self-inside.replies.items;
   own : IsOwn l.region l.own l.thread;
-  others : OthersStay l.fn.region l.thread l.region;
   orders : l.self-inside.orders.items ≡ l.fn.self.orders;
   allowed : All IsAllowedOrder l.self-inside.orders.items;
   len : length l.self-inside.replies.items ≡ l.i;
   room : length l.self-inside.orders.items ≤ vec_capacity l.self-inside.replies;
-  few : length l.self-inside.orders.items ≤ 2 ^ 60;
+  few : length l.self-inside.orders.items ≤ 2 ^ 27;
   end : l.i-end ≡ length l.self-inside.orders.items;
 }

@@ -1,5 +1,5 @@
 -- A command, once it is counted: what the heap then is, and what is owed of it.
-use Rattle.std.proofs.Common.{◌≡◌, ℕ, ◌<◌, ◌≤◌, ◌*◌, true, false, [], ◌∷◌, ◌++◌, Option, Some, IfSome, length, drop, sym, ap, ◌∙◌, subst, inl, inr, arith, ◌+◌, List}
+use Rattle.std.proofs.Common.{◌≡◌, ℕ, ◌<◌, true, false, [], ◌∷◌, ◌++◌, Option, Some, IfSome, length, drop, sym, ap, ◌∙◌, subst, inl, inr, arith, ◌+◌, List}
 use Rattle.std.specs.List.{Contains}
 use Rattle.std.proofs.lemmas.List.{length-append}
 use Rattle.gc_graph.specs.declared.command.Command.{Command}
@@ -133,10 +133,6 @@ module _
   ordinal : c.count_command.new.self.rest.ordinal ≡ c.self.inside.parts.cycle.rest.ordinal + 1
   ordinal = ap (λ (p : Parts). p.cycle.rest.ordinal) parts_are ∙ is.frame.ordinal
 
-  -- there is room for two entries a command
-  pub room : c.run.new.parts.region.room ≤ 2 * c.count_command.new.self.rest.ordinal
-  room = omega (arith, is.region.room, c.self.invariant.few, ordinal)
-
   -- what is counted stays within bounds
   pub counts : IsCounted (state_of (record c.run.new.parts { cycle = c.count_command.new.self }))
   counts =
@@ -259,7 +255,6 @@ module _
     ordinal = ordinal;
     history = history_after;
     out = is.region.none_out;
-    unjoined = c.orders_are_begun.ensures;
     since = c.after.ensures;
     totals = join_tells;
     fall = λ join.

@@ -1,9 +1,0 @@
-use Rattle.std.proofs.Common.{take, subst, sym, arith}
-use Rattle.cross_thread_region.specs.Calls.{PassView}
-use Rattle.heap_region.specs.Handled.{IsHandled}
-use Rattle.heap_region.proofs.taking.take_seen.Goals as goal
-
-pub look_again-requires-clause-handled : goal.look_again-requires-clause-handled
-look_again-requires-clause-handled c k above below =
-    subst (λ (p : PassView). IsHandled c.args.objects.now.nodes (take k p.seen)) (sym c.entries-to.ensures.pass)
-    (c.requires.handled k (omega (arith, above, c.len-from.ensures)) (omega (arith, below, c.entries-to.ensures.count)))
