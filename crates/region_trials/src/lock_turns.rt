@@ -2,7 +2,7 @@
 
 ghost use Rattle.std.specs.Prelude.{[], ◌∷◌};
 ghost use Rattle.std.specs.Thread.{IsSync};
-ghost use Rattle.parts_trials.specs.FreePasses.{IsFree};
+ghost use Rattle.region_trials.specs.FreePasses.{IsFree};
 
 use gc_graph::NoMemory;
 use region_lock::{Chronicle, LockPass, RegionLock};

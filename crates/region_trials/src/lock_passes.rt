@@ -1,7 +1,7 @@
 // Passes of a lock that come back in each order.
 
 ghost use Rattle.std.specs.Prelude.{[], ◌∷◌};
-ghost use Rattle.parts_trials.specs.FreePasses.{IsFree, IsOther};
+ghost use Rattle.region_trials.specs.FreePasses.{IsFree, IsOther};
 
 use crate::lock_turns::{Rounds, Visits, visit, visit_at_once};
 use gc_graph::NoMemory;

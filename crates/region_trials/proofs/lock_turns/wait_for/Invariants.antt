@@ -1,5 +1,5 @@
-use Rattle.parts_trials.specs.FreePasses.{IsFree}
-use Rattle.parts_trials.proofs.lock_turns.wait_for.Given as goal
+use Rattle.region_trials.specs.FreePasses.{IsFree}
+use Rattle.region_trials.proofs.lock_turns.wait_for.Given as goal
 
 abbrev pub invariant-loop : goal.invariant-loop
 invariant-loop g l =

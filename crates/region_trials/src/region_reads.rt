@@ -1,7 +1,7 @@
 // The places that entries read from weak slots.
 
 ghost use Rattle.std.specs.Prelude.{◌≡◌, ◌<◌};
-ghost use Rattle.parts_trials.specs.FreePasses.{IsFree};
+ghost use Rattle.region_trials.specs.FreePasses.{IsFree};
 
 use crate::region_calls::{call, export, import};
 use cross_thread_region::{HeldHistory, Pass, Region};

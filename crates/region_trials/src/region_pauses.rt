@@ -2,7 +2,7 @@
 
 ghost use Rattle.std.specs.Prelude.{◌≡◌, true};
 ghost use Rattle.cross_thread_region.specs.Histories.{is_started};
-ghost use Rattle.parts_trials.specs.FreePasses.{IsFree};
+ghost use Rattle.region_trials.specs.FreePasses.{IsFree};
 
 use crate::region_calls::{call, end_without, export, import, start};
 use cross_thread_region::{HeldRegion, Pass, Region};

@@ -4,7 +4,7 @@ ghost use Rattle.std.specs.Prelude.{◌≡◌, ◌==◌, ◌+◌, ◌<◌, ◌^�
 ghost use Rattle.gc_graph.specs.Outcomes.{IsThreadOp};
 ghost use Rattle.cross_thread_region.specs.Contents.{IsCallWithin};
 ghost use Rattle.cross_thread_region.specs.Histories.{is_started};
-ghost use Rattle.parts_trials.specs.FreePasses.{IsFree};
+ghost use Rattle.region_trials.specs.FreePasses.{IsFree};
 
 use cross_thread_region::{HeldRegion, Pass, Region};
 use gc_graph::{Op, Reply};

@@ -1,7 +1,7 @@
 use Rattle.std.proofs.Common.{rules}
 use Rattle.std.specs.Prelude.{⊤}
 use Rattle.persistent_slots.specs.Steady.{may_be_asked}
-use Rattle.parts_trials.proofs.region_calls.end_without.Goals as goal
+use Rattle.region_trials.proofs.region_calls.end_without.Goals as goal
 
 pub pause_end-requires-clause-asks : goal.pause_end-requires-clause-asks
 pause_end-requires-clause-asks c =

@@ -1,7 +1,7 @@
 // What passes see.
 
 ghost use Rattle.std.specs.Prelude.{◌≡◌, []};
-ghost use Rattle.parts_trials.specs.FreePasses.{IsFree};
+ghost use Rattle.region_trials.specs.FreePasses.{IsFree};
 
 use crate::region_calls::{call, export};
 use cross_thread_region::{Pass, Region};

@@ -1,5 +1,0 @@
-use Rattle.parts_trials.specs.FreePasses.{IsFree}
-use Rattle.parts_trials.proofs.lock_turns.visit_often.Given as goal
-
-abbrev pub invariant-loop : goal.invariant-loop
-invariant-loop g l = IsFree l.fn.lock l.fn.number l.pass
