@@ -68,8 +68,9 @@ LONG_LINE = "import 0 0"
 # For a line of each kind, read, run and told.
 LINE_BARS = {
     "drop 0": 330, "set 0 0 0": 430, "get 0 0 2": 430, "put 0 1 5": 430, "word 0 1": 430, "copy 0 2": 430,
-    "weak 0 0": 430, "read 0 2": 430,
+    "weak 0 0": 430, "read 0 2": 430, "export 0 0": 980, "import 0 0": 1010,
 }
+SMALL_COLLECTION_BAR = 12_700
 
 
 # Those that are run with n objects and with 2n, and of these those that are run with 0 too: what stands
@@ -316,6 +317,9 @@ class Bench:
             some, twice = (self.instructions(loads.with_words(line, n * self.count)) for n in (1, 2))
             name = f"line_{line.split()[0]}_instructions"
             self.figures.tell(name, (twice - some) / self.count, bar)
+        count = self.count // 100
+        some, twice = (self.instructions(loads.with_words(f"{COLLECTION}\n{SWEEP}", n * count)) for n in (1, 2))
+        self.figures.tell("small_collection_instructions", (twice - some) / count, SMALL_COLLECTION_BAR)
 
     def collections(self):
         """What a collection costs for each live object."""
