@@ -7,12 +7,13 @@ ghost use Rattle.marker_crew.specs.Drains.{nothing_yet, AreDealtWith, IsIdle};
 ghost use Rattle.marker_crew.specs.Steps.{HasStepped};
 
 use crate::draining::Drained;
-use crate::gate::{FreeGate, Manner};
+use crate::gate::Manner;
 use crate::items::deal_with;
 use crate::taking::next_item;
 use mark_worklist::Share;
 use page_words::{MarkerSeat, MutatorSeat, Words};
 use pair_notes::Pairs;
+use thread_gate::FreeGate;
 use type_table::TypeTable;
 
 /// So many items one step takes at most.

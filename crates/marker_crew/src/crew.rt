@@ -9,7 +9,6 @@ ghost use Rattle.marker_crew.specs.Crews.{IsCrew, started_with, HasJoined};
 ghost use Rattle.marker_crew.specs.Lending.{LendsOwnNotes, LendsNotes};
 
 use crate::endings::{Begun, Ended};
-use crate::gate::Gate;
 use crate::runners::{Runner, started, wait_for};
 use gc_graph::NoMemory;
 use mark_worklist::Share;
@@ -20,6 +19,7 @@ use std::marker::Model;
 use std::mem;
 use std::sync::Arc;
 use std::thread::Threads;
+use thread_gate::Gate;
 use type_table::TypeTable;
 
 /// What the drains of a crew tell together: how many objects were claimed and traced, and whether a

@@ -5,12 +5,13 @@ ghost use Rattle.mark_worklist.specs.Shares.{taken_by_share};
 ghost use Rattle.marker_crew.specs.Stages.{drain_stage, MarkerWorks};
 ghost use Rattle.marker_crew.specs.Drains.{nothing_yet, AreDealtWith, IsIdle};
 
-use crate::gate::{Gate, Manner};
+use crate::gate::Manner;
 use crate::items::deal_with;
 use crate::taking::await_item;
 use mark_worklist::Share;
 use page_words::{MarkerSeat, Words};
 use pair_notes::Pairs;
+use thread_gate::Gate;
 use type_table::TypeTable;
 
 /// What a drain tells: how many objects it claimed and traced, whether more may be left to do, and

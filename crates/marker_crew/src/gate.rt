@@ -1,25 +1,12 @@
 // Where a marker may be held.
 
+use thread_gate::Gate;
+
 /// The point before a claim.
 pub(crate) const BEFORE_CLAIM: u32 = 1;
 
 /// The point after an object was traced.
 pub(crate) const AFTER_OBJECT: u32 = 2;
-
-/// Holds a worker at a point, as a test may want to. A marker has the number 1 or more.
-pub trait Gate: Drop {
-    fn pass(&self, worker: u32, point: u32);
-}
-
-/// Never holds anybody.
-#[derive(Drop)]
-pub struct FreeGate;
-
-impl Gate for FreeGate {
-    fn pass(&self, worker: u32, point: u32) {
-        let _ = (worker, point);
-    }
-}
 
 /// How a worker drains: at which gate, and under which number.
 #[derive(Drop)]

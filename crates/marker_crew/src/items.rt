@@ -6,13 +6,14 @@ ghost use Rattle.mark_worklist.specs.Shares.{ShareState, taken_by_share};
 ghost use Rattle.marker_crew.specs.Stages.{drain_stage, MarkerWorks, IsDealtWithIn};
 
 use crate::draining::Drained;
-use crate::gate::{AFTER_OBJECT, BEFORE_CLAIM, Gate, Manner};
+use crate::gate::{AFTER_OBJECT, BEFORE_CLAIM, Manner};
 use crate::objects::{has_traced, trace_object};
 use crate::recording::note;
 use mark_worklist::Share;
 use object_headers::Header;
 use page_words::{MarkerSeat, Words, has_mark};
 use pair_notes::Pairs;
+use thread_gate::Gate;
 use type_table::TypeTable;
 
 /// Claims and traces the object at a place that was taken from a list. Where none is found there, or

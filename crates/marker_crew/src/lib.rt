@@ -6,7 +6,7 @@
 //!
 //! The parts: `drain` (so many items, one after another), `Drained` (what it tells), `Crew` (up to
 //! eight markers, each with a thread), `CrewResult` (what they tell together), `step_beside` (the
-//! owner's step), `Gate` (where a test may hold a marker), `FreeGate` (which holds nobody).
+//! owner's step). It hands on `Gate` and `FreeGate`, where a test may hold a marker.
 //!
 //! What is proved: `docs/PROVED.md`, under what a marker drains.
 //!
@@ -27,4 +27,4 @@ mod taking;
 pub use beside::step_beside;
 pub use crew::{Crew, CrewResult};
 pub use draining::{Drained, drain};
-pub use gate::{FreeGate, Gate};
+pub use thread_gate::{FreeGate, Gate};

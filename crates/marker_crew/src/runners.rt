@@ -7,12 +7,12 @@ ghost use Rattle.marker_crew.specs.Runners.{began_as};
 
 use crate::draining::drain;
 use crate::endings::{Begun, EndOf, Ended, InPlace};
-use crate::gate::Gate;
 use page_words::Words;
 use std::snapshot::Snapshot;
 use std::sync::Arc;
 use std::thread;
 use std::thread::{PromisedHandle, Threads};
+use thread_gate::Gate;
 use type_table::TypeTable;
 
 /// A marker that was started.
