@@ -42,3 +42,5 @@ pub use Rattle.heap_roots.specs.StackWords
 pub use Rattle.heap_roots.specs.Sweeping
 pub use Rattle.heap_roots.specs.Took
 pub use Rattle.heap_roots.specs.Wanted
+pub use Rattle.mark_worklist.specs.Families
+pub use Rattle.mark_worklist.specs.Shares

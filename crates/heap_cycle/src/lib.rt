@@ -8,7 +8,7 @@
 //! `collections` (`start`, `step` and `finish` of a cycle, and `collect`, the whole of one) over
 //! `beginning` and `crew` (the markers), `reads` (weak reads), `sweeps` and `cycle_sweeps`,
 //! `placement`, and `Outcome` (the lines of the last command). For contracts alone: `states`, and
-//! `Parts::take_since` of `taking`. Next down are `heap_roots` and `heap_objects`.
+//! `Parts::take_since` of `taking`. Next down is `heap_roots`.
 //!
 //! What is proved: the state of the graph is put together from what each part holds of it. Start,
 //! step and pause of a cycle, a whole collection, a weak read and a sweep are lawful steps of that

@@ -12,7 +12,6 @@ use Rattle.gc_graph.specs.HistoryLaw.{StepsFollow}
 use Rattle.gc_graph.specs.Lawful.{IsAllowed}
 use Rattle.gc_graph.specs.OnceLaw.{NodesStayPut}
 use Rattle.gc_graph.specs.Outcomes.{answered}
-use Rattle.gc_graph.specs.State.{State}
 use Rattle.gc_graph.specs.Step.{Step}
 use Rattle.gc_graph.specs.ThreadLaw.{is_of_threads}
 use Rattle.heap_cycle.specs.Calls.{TakesMore}
@@ -23,7 +22,8 @@ use Rattle.heap_cycle.specs.Owned.{OwnedView, IsToldLine, piece_of}
 use Rattle.heap_cycle.specs.Parts.{AreTied, counted, setup_of, state_of, IsFrame, IsReady}
 use Rattle.heap_cycle.specs.Printed.{Printed, lines_with, TellsThoseThatRan}
 use Rattle.heap_cycle.specs.Region.{HasRegion}
-use Rattle.heap_engine.specs.CarriedOut.{HandsTotals, IsAsked, IsCarriedOut, IsCommandDone, IsDoneAlone, LeavesRegion, TellsNothing, leaves_region}
+use Rattle.thread_queues.specs.Falling.{none_falls}
+use Rattle.heap_engine.specs.CarriedOut.{LeavesBoard, IsAsked, IsCarriedOut, IsCommandDone, IsDoneAlone, LeavesRegion, TellsNothing, leaves_region}
 use Rattle.heap_engine.specs.declared.heap_core.Core.TheInside.{Inside}
 use Rattle.heap_engine.specs.Ended.{last_line, IsEnded}
 use Rattle.heap_engine.specs.Sound.{IsSound}
@@ -93,11 +93,11 @@ handles_done command s before o handles changed is nothing same tied step alone 
 
 -- ---- the region
 
--- a command other than `threads go` hands the totals of before
-still_handed : (command : Command) (s : State) (old new : OwnedView) → is_of_threads command ≡ false → new.totals ≡ old.totals → new.awaiting ≡ old.awaiting
-    → HandsTotals command s old new
-still_handed C.ThreadsGo s old new other same still = absurd (true≢false other)
-still_handed _ s old new other same still = (same, λ awaits. sym still ∙ awaits)
+-- a command other than `threads go` leaves what was published
+still_posted : (command : Command) (old new : OwnedView) → is_of_threads command ≡ false → new.last ≡ old.last → new.since ≡ old.since
+    → LeavesBoard command old new
+still_posted C.ThreadsGo old new other last since = absurd (true≢false other)
+still_posted _ old new other last since = (last, since)
 
 alone_calm : (command : Command) → leaves_region command ≡ true → is_of_threads command ≡ false
 alone_calm (C.At j order) is = absurd (true≢false (sym is))
@@ -120,11 +120,12 @@ leaves_more command s new o begun other asked region more =
       region = region;
       begins = more.begins;
       none_out = λ still. ap (λ (v : OwnedView). v.out) more.rest ∙ asked.none_out (sym (ap (λ (v : OwnedView). v.awaiting) more.rest) ∙ still);
-      handed = still_handed command (state_of s) s.region new.region other (ap (λ (v : OwnedView). v.totals) more.rest) (ap (λ (v : OwnedView). v.awaiting) more.rest);
+      board = still_posted command s.region new.region other (ap (λ (v : OwnedView). v.last) more.rest) (ap (λ (v : OwnedView). v.since) more.rest);
       replies = none_in new.region.told IsToldLine told;
       joined = inl told;
       of_join = λ join. absurd (true≢false (ap is_of_threads (sym join) ∙ other));
       totals = λ j a n u f there. absurd (none_there new.region.told (L.ReplyTotals j a n u f) told there);
+      fall = none_falls new.region.told (λ j a n u f there. none_there new.region.told (L.ReplyTotals j a n u f) told there);
     }
 
 -- a region that is as it was takes nothing

@@ -11,6 +11,7 @@ use Rattle.gc_graph.specs.ThreadLaw.{IsCounted}
 use Rattle.gc_graph.specs.ValidLaw.{EmptyIsValid}
 use Rattle.cross_thread_region.specs.Histories.{slots_of}
 use Rattle.cross_thread_region.specs.PlacedNodes.{named_is_target}
+use Rattle.heap_engine.specs.Going.{ArePublished}
 use Rattle.heap_cycle.specs.Seat.{Heap, empty_view}
 use Rattle.heap_cycle.specs.PlacesInWords.{places_of_slots}
 use Rattle.heap_cycle.specs.Objects.{HaveCallbacks, ObjectsView}
@@ -112,3 +113,10 @@ pub counted_empty : (s : Parts) (heap : Heap) (shape : Shape) (markers : ℕ) (t
 counted_empty s heap shape markers types callbacks is =
     let none : IsCounted (state_of (empty_parts heap shape markers types callbacks)) = record { pauses = omega arith; full = omega arith; finalised = refl } in
     subst (λ (p : Parts). IsCounted (state_of p)) (sym is) none
+
+-- four zeros were published of it
+pub board_empty : (s : Parts) (heap : Heap) (shape : Shape) (markers : ℕ) (types : List ObjectType) (callbacks : List ActionKind) → s ≡ empty_parts heap shape markers types callbacks
+    → ArePublished [] (state_of s) s.region
+board_empty s heap shape markers types callbacks is =
+    let none : ArePublished [] (state_of (empty_parts heap shape markers types callbacks)) nothing_owned = record { last = refl; before = refl } in
+    subst (λ (p : Parts). ArePublished [] (state_of p) p.region) (sym is) none

@@ -114,11 +114,12 @@ module _ (s : Parts) (begun o : Printed) (objects : ObjectsView) (r : OwnedView)
           region = new_region;
           begins = ap (take (length s.region.taken)) is.taken ∙ take-append_seam s.region.taken is.others;
           none_out = λ awaits. ap (λ (v : OwnedView). v.out) is.rest;
-          handed = (ap (λ (v : OwnedView). v.totals) is.rest, λ awaits. absurd (true≢false (sym awaits ∙ ap (λ (v : OwnedView). v.awaiting) is.rest)));
+          board = (ap (λ (v : OwnedView). v.last) is.rest, ap (λ (v : OwnedView). v.since) is.rest);
           replies = subst (All IsToldLine) (sym is.told) (all_told is.answers s.region.running (untold_of still));
           joined = inr of_join;
           of_join = λ same. of_join;
           totals = is.totals;
+          fall = is.fall;
         };
         ran = λ runs. absurd (true≢false (sym runs ∙ ap (λ (p : Printed). p.prefinalises) ended ∙ asked.nothing.calm));
         marked = λ start told. cc;

@@ -1,31 +1,43 @@
--- The totals that a join tells are those of one state since threads went, and none falls.
-use Rattle.std.proofs.Common.{◌≡◌, ℕ, true, List, [], ◌∷◌, ◌++◌, Option, Some, sym, ap, ◌∙◌, subst, inl, inr, arith}
-use Rattle.std.specs.List.{Contains, slice_get}
+-- The totals that a join tells are those of states since threads went, and none falls; and what is published after a command.
+use Rattle.std.proofs.Common.{◌≡◌, ℕ, List, [], ◌∷◌, ◌++◌, map, Option, sym, ap, ◌∙◌, subst, inl, inr, arith}
+use Rattle.std.specs.List.{Contains}
 use Rattle.std.specs.Option.{option_to_list}
-use Rattle.std.proofs.lemmas.Option.{slice_get_within, get_or_from_slice_get}
-use Rattle.std.proofs.lemmas.List.Elements.{Contains-append_cases, Contains-append_left}
+use Rattle.std.proofs.lemmas.List.{map-append}
+use Rattle.std.proofs.lemmas.List.Elements.{Contains-append_cases}
 use Rattle.gc_graph.specs.declared.command.Command.{Command}
 use Rattle.gc_graph.specs.declared.command.Command.TheVariants as C
 use Rattle.gc_graph.specs.declared.line.Line.{Line}
 use Rattle.gc_graph.specs.declared.line.Line.TheVariants as L
 use Rattle.gc_graph.specs.Lawful.{TotalsNeverFall}
-use Rattle.gc_graph.specs.Members.{Contains-cons_cases, Contains-head}
+use Rattle.gc_graph.specs.Members.{Contains-cons_cases, Contains-map_some}
 use Rattle.gc_graph.specs.Outcomes.{finalise_lines}
-use Rattle.gc_graph.specs.State.{State, objects_of, used_of}
-use Rattle.thread_queues.specs.Going.{AreTotals}
-use Rattle.thread_queues.specs.declared.totals.Totals.{Totals}
+use Rattle.gc_graph.specs.State.{State}
+use Rattle.thread_queues.specs.Falling.{TellNoTotals, still_fall_not}
+use Rattle.thread_queues.specs.Going.{TellSomeOf}
+use Rattle.thread_queues.specs.Queues.{posted}
+use Rattle.thread_queues.specs.Totals.{Totals}
 use Rattle.heap_cycle.specs.Owned.{OwnedView}
 use Rattle.heap_cycle.specs.Printed.{Printed, outcome_lines, ran_lines}
-use Rattle.heap_engine.specs.CarriedOut.{HandsTotals, IsOfJoin}
-use Rattle.heap_engine.specs.Going.{AreOfOneOf, AreTotalsOf, TellOneOf, since_after}
+use Rattle.heap_engine.specs.CarriedOut.{LeavesBoard, IsOfJoin}
+use Rattle.heap_engine.specs.Going.{ArePublished, TellOneOf, since_after, totals_of}
 
--- what threads were handed is of one of the states since they went, also after a command more
-pub totals_after : (command : Command) (s : State) (since : List State) (old new : OwnedView) → HandsTotals command s old new
-    → (old.awaiting ≡ true → AreOfOneOf since old.totals) → new.awaiting ≡ true → AreOfOneOf (since_after command s since) new.totals
-totals_after C.ThreadsGo s since old new handed before awaits = (s, Contains-head s [], handed)
-totals_after _ s since old new handed before awaits =
-    let one : AreOfOneOf since old.totals = before (handed.1 awaits) in
-    (one.0, Contains-append_left since (s ∷ []) one.0 one.1, subst (AreTotalsOf one.0) (sym handed.0) one.2)
+-- what was published until a command is that of the states since, and of the one before it
+pub posted_is : (since : List State) (s : State) (region : OwnedView) → ArePublished since s region → posted region.since region.last ≡ map totals_of (since ++ s ∷ [])
+posted_is since s region board =
+    ap (λ ts. ts ++ region.last ∷ []) board.before ∙ ap (λ t. map totals_of since ++ t ∷ []) board.last ∙ sym (map-append totals_of since (s ∷ []))
+
+-- nothing is published before the command is counted
+pub last_stays : (command : Command) (old new : OwnedView) → LeavesBoard command old new → new.last ≡ old.last
+last_stays C.ThreadsGo old new board = board.0
+last_stays _ old new board = board.0
+
+-- and once it is, what was published is that of the states since
+pub posted_after : (command : Command) (s : State) (since : List State) (old new : OwnedView) → LeavesBoard command old new → ArePublished since s old
+    → posted new.since new.last ≡ map totals_of (since_after command s since)
+posted_after C.ThreadsGo s since old new board was =
+    ap (λ ts. ts ++ new.last ∷ []) board.1 ∙ ap (λ t. t ∷ []) (board.0 ∙ was.last)
+posted_after _ s since old new board was =
+    ap (λ ts. ts ++ new.last ∷ []) board.1 ∙ ap (λ t. old.since ++ t ∷ []) board.0 ∙ posted_is since s old was
 
 -- a join's outcome has one line
 pub joined_alone : (o : Printed) (ran : List (ℕ × ℕ)) (join : IsOfJoin o) → outcome_lines o ran ≡ L.Joined join.count ∷ []
@@ -35,36 +47,23 @@ joined_alone o ran join =
 
 -- ---- a join
 
-module _
-    (told : List Line) (o : Printed) (ran : List (ℕ × ℕ)) (totals : Totals) (join : IsOfJoin o)
-    (is : (j a n u f : ℕ) → Contains told (L.ReplyTotals j a n u f) → AreTotals totals a n u f) where
-  are_totals : (j a n u f : ℕ) → Contains (told ++ outcome_lines o ran) (L.ReplyTotals j a n u f) → AreTotals totals a n u f
-  are_totals j a n u f there = elim (Contains-append_cases told (outcome_lines o ran) (L.ReplyTotals j a n u f) there) [
-    | inl first ↦ is j a n u f first
-    | inr later ↦ (
-        let only : Contains (L.Joined join.count ∷ []) (L.ReplyTotals j a n u f) = subst (λ ls. Contains ls (L.ReplyTotals j a n u f)) (joined_alone o ran join) later in
-        elim (Contains-cons_cases (L.Joined join.count) [] (L.ReplyTotals j a n u f) only) [ inl same ↦ cc | inr never ↦ absurd (omega (arith, never.1)) ]
+module _ (told : List Line) (o : Printed) (ran : List (ℕ × ℕ)) (join : IsOfJoin o) where
+  -- its last line tells no totals
+  none_last : TellNoTotals (outcome_lines o ran)
+  none_last j a n u f there =
+      let only : Contains (L.Joined join.count ∷ []) (L.ReplyTotals j a n u f) = subst (λ ls. Contains ls (L.ReplyTotals j a n u f)) (joined_alone o ran join) there in
+      elim (Contains-cons_cases (L.Joined join.count) [] (L.ReplyTotals j a n u f) only) [ inl same ↦ cc | inr never ↦ absurd (omega (arith, never.1)) ]
+
+  -- the totals are those of one of the states
+  pub tell_one : (states : List State) → TellSomeOf (map totals_of states) told → TellOneOf states (told ++ outcome_lines o ran)
+  tell_one states some j a n u f there = elim (Contains-append_cases told (outcome_lines o ran) (L.ReplyTotals j a n u f) there) [
+    | inl first ↦ (
+        let one = Contains-map_some totals_of states (record { ordinal = a; objects = n; used = u; finalised = f }) (some j a n u f first) in
+        (one.0, one.1, sym (ap (λ (t : Totals). L.ReplyTotals j t.ordinal t.objects t.used t.finalised) one.2))
         )
+    | inr later ↦ absurd (none_last j a n u f later)
   ]
 
-  -- they are those of the state whose totals were handed
-  pub tell_one : (since : List State) (s : State) → AreOfOneOf since totals → TellOneOf (since_after C.ThreadsJoin s since) (told ++ outcome_lines o ran)
-  tell_one since s one j a n u f there =
-      let are : AreTotals totals a n u f = are_totals j a n u f there in (
-        one.0,
-        Contains-append_left since (s ∷ []) one.0 one.1,
-        ap (λ x. L.ReplyTotals j x n u f) (are.0 ∙ one.2.ordinal) ∙ ap (λ x. L.ReplyTotals j one.0.ordinal x u f) (are.1 ∙ one.2.objects)
-            ∙ ap (λ x. L.ReplyTotals j one.0.ordinal (objects_of one.0.nodes) x f) (are.2 ∙ one.2.used) ∙ ap (λ x. L.ReplyTotals j one.0.ordinal (objects_of one.0.nodes) (used_of one.0.nodes) x) (are.3 ∙ one.2.finalised),
-      )
-
-  holds_found : (xs : List Line) (i : ℕ) (x : Line) → slice_get xs i ≡ Some x → Contains xs x
-  holds_found xs i x at = (i, slice_get_within xs i x at, get_or_from_slice_get xs i x x at)
-
-  -- so none falls
-  pub never_fall : TotalsNeverFall (told ++ outcome_lines o ran)
-  never_fall a b j x n u f x2 n2 u2 f2 before first second =
-      omega (
-        arith,
-        (are_totals j x n u f (holds_found (told ++ outcome_lines o ran) a (L.ReplyTotals j x n u f) first)).0,
-        (are_totals j x2 n2 u2 f2 (holds_found (told ++ outcome_lines o ran) b (L.ReplyTotals j x2 n2 u2 f2) second)).0,
-      )
+  -- and none falls
+  pub never_fall : TotalsNeverFall told → TotalsNeverFall (told ++ outcome_lines o ran)
+  never_fall fall = still_fall_not told (outcome_lines o ran) fall none_last

@@ -13,7 +13,7 @@ use Rattle.heap_cycle.specs.Pages.{word_count}
 use Rattle.heap_cycle.specs.Cycles.{HasNoRefusedNote, HasNoRefusedPush}
 use Rattle.heap_cycle.specs.Notes.{note_of}
 use Rattle.heap_cycle.specs.Walks.{IsWalkToldIn}
-use Rattle.heap_engine.specs.Going.{TellOneOf, since_after}
+use Rattle.heap_engine.specs.Going.{TellOneOf, since_after, totals_of}
 use Rattle.heap_engine.specs.View.{Items, View}
 
 -- a step that is done: without markers each marked node is traced, unless a push was refused in the cycle; and beside markers the
@@ -29,7 +29,7 @@ IsDealtWith items words p =
     Contains items.claimed p ⊎ (Contains items.found p ⊎ (Contains items.notes (note_of p 0) × (Contains items.missed p ⊎ (words ≤ p))))
 
 -- the command is a step to the new state, which takes this piece of the region's history and tells these lines, so many; one command
--- more is counted, the piece follows the history, and the heap isn't closed; no pass is out where no join is awaited; each totals that a
+-- more is counted, the piece follows the history, the totals of the new state are published, and the heap isn't closed; no pass is out where no join is awaited; each totals that a
 -- join tells are those of one state since the threads went, and those of one thread never get older; a pause line tells truly whether
 -- the heap was walked; where a cycle was started, what the strong slots name is marked, those of the region among them; while marking
 -- goes on a seat is lent for each of the heap's markers, and each item that the owner took beside them is dealt with unless a note was
@@ -41,6 +41,7 @@ pub record IsActed (old new : View) (command : Command) (lines : ℕ) : Type 0 w
   pub history : new.history ≡ old.history ++ new.piece
   pub out : new.state.awaiting ≡ false → new.out ≡ []
   pub since : new.since ≡ since_after command old.state old.since
+  pub published : new.published ≡ totals_of new.state
   pub totals : command ≡ C.ThreadsJoin → TellOneOf new.since new.lines
   pub fall : command ≡ C.ThreadsJoin → TotalsNeverFall new.lines
   pub setup : new.setup ≡ old.setup

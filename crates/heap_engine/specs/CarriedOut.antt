@@ -1,14 +1,15 @@
 -- What is owed of a command, between the parts of a heap before it and after it, and the outcome that it ended.
-use Rattle.std.specs.Prelude.{◌≡◌, ◌⊎◌, ℕ, ◌*◌, ◌≤◌, ◌<◌, ◌++◌, Bool, true, false, [], length, All, Contains, Some}
+use Rattle.std.specs.Prelude.{◌≡◌, ◌⊎◌, ℕ, ◌*◌, ◌≤◌, ◌<◌, ◌++◌, Bool, true, false, [], length, All, Some}
 use Rattle.gc_graph.specs.declared.command.Command.{Command}
 use Rattle.gc_graph.specs.declared.command.Command.TheVariants as C
 use Rattle.gc_graph.specs.declared.line.Line.TheVariants as L
 use Rattle.gc_graph.specs.Outcomes.{answered}
-use Rattle.gc_graph.specs.State.{State}
 use Rattle.gc_graph.specs.Step.{Step}
 use Rattle.gc_graph.specs.ThreadLaw.{IsCounted}
 use Rattle.cross_thread_region.specs.Calls.{Begins}
-use Rattle.thread_queues.specs.Going.{AreTotals}
+use Rattle.gc_graph.specs.Lawful.{TotalsNeverFall}
+use Rattle.thread_queues.specs.Going.{TellSomeOf}
+use Rattle.thread_queues.specs.Queues.{posted}
 use Rattle.heap_cycle.specs.Pages.{word_count}
 use Rattle.heap_cycle.specs.Cycles.{AreSlotsMarked, HasFoundAll}
 use Rattle.heap_cycle.specs.Crews.{KeepsTaken}
@@ -18,7 +19,6 @@ use Rattle.heap_cycle.specs.Parts.{setup_of, state_of, counted, IsFrame, IsReady
 use Rattle.heap_cycle.specs.Printed.{Printed, outcome_lines, TellsThoseThatRan}
 use Rattle.heap_cycle.specs.Region.{HasRegion}
 use Rattle.heap_engine.specs.Ended.{last_line, IsEnded}
-use Rattle.heap_engine.specs.Going.{AreTotalsOf}
 
 -- an outcome that has begun tells nothing yet
 pub record TellsNothing (o : Printed) : Type 0 where
@@ -69,23 +69,24 @@ pub record IsOfJoin (o : Printed) : Type 0 where
   pub numbers : o.numbers ≡ []
   pub calm : o.prefinalises ≡ false
 
--- the totals that threads are handed are those of the state, where they went, and else those of before, and no join is awaited anew
-abbrev pub HandsTotals : Command → State → OwnedView → OwnedView → Type 0
-HandsTotals C.ThreadsGo s old new = AreTotalsOf s new.totals
-HandsTotals _ s old new = (new.totals ≡ old.totals) × (new.awaiting ≡ true → old.awaiting ≡ true)
+-- nothing was published yet, and where threads went none has been since
+abbrev pub LeavesBoard : Command → OwnedView → OwnedView → Type 0
+LeavesBoard C.ThreadsGo old new = (new.last ≡ old.last) × (new.since ≡ [])
+LeavesBoard _ old new = (new.last ≡ old.last) × (new.since ≡ old.since)
 
 -- what a command leaves of the region: it belongs to the parts, and what was taken of the history begins what is taken now; no pass is
--- out unless a join is awaited; and where lines are told before the last one, they are replies and entries of a join, and their totals
--- are those that threads were handed; a join ends the outcome as one
+-- out unless a join is awaited; where lines are told before the last one, they are replies and entries of a join, and their totals
+-- are some of those published since the threads went, from the last ones before, and never get older; a join ends the outcome as one
 pub record LeavesRegion (command : Command) (old new : Parts) (o : Printed) : Type 0 where
   pub region : HasRegion new
   pub begins : Begins old.region.taken new.region.taken
   pub none_out : new.region.awaiting ≡ false → new.region.out ≡ []
-  pub handed : HandsTotals command (state_of old) old.region new.region
+  pub board : LeavesBoard command old.region new.region
   pub replies : All IsToldLine new.region.told
   pub joined : (new.region.told ≡ []) ⊎ IsOfJoin o
   pub of_join : command ≡ C.ThreadsJoin → IsOfJoin o
-  pub totals : (j o n u f : ℕ) → Contains new.region.told (L.ReplyTotals j o n u f) → AreTotals old.region.totals o n u f
+  pub totals : TellSomeOf (posted old.region.since old.region.last) new.region.told
+  pub fall : TotalsNeverFall new.region.told
 
 -- a command was carried out: it is a step, whose lines the region and the outcome tell, and ended the outcome; where it started a cycle,
 -- what the strong slots name is marked; where it is a step of one that tells that it is done, it found all; and it kept what the owner

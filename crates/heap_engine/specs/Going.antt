@@ -1,12 +1,16 @@
 -- What threads are told of a heap.
-use Rattle.std.specs.Prelude.{◌≡◌, ℕ, List, [], ◌∷◌, ◌++◌, Contains}
+use Rattle.std.specs.Prelude.{◌≡◌, ℕ, List, [], ◌∷◌, ◌++◌, map, Contains}
 use Rattle.gc_graph.specs.declared.command.Command.{Command}
 use Rattle.gc_graph.specs.declared.command.Command.TheVariants as C
 use Rattle.gc_graph.specs.declared.line.Line.{Line}
 use Rattle.gc_graph.specs.declared.line.Line.TheVariants as L
 use Rattle.gc_graph.specs.Lawful.{TellsTotals}
 use Rattle.gc_graph.specs.State.{State, objects_of, used_of}
-use Rattle.thread_queues.specs.declared.totals.Totals.{Totals}
+use Rattle.thread_queues.specs.Queues.{posted}
+use Rattle.thread_queues.specs.Totals.{Totals}
+use Rattle.heap_cycle.specs.declared.parts.Parts.{Parts}
+use Rattle.heap_cycle.specs.Owned.{OwnedView}
+use Rattle.heap_cycle.specs.Parts.{state_of}
 
 -- the states since threads went last, up to the one before this command: the first one is that just before they went
 abbrev pub since_after : Command → State → List State → List State
@@ -19,13 +23,15 @@ TellOneOf states lines =
     (j o n u f : ℕ) → Contains lines (L.ReplyTotals j o n u f)
     → (s : State) × Contains states s × TellsTotals s j (L.ReplyTotals j o n u f)
 
--- the totals are those of the state
-pub record AreTotalsOf (s : State) (totals : Totals) : Type 0 where
-  pub ordinal : totals.ordinal ≡ s.ordinal
-  pub objects : totals.objects ≡ objects_of s.nodes
-  pub used : totals.used ≡ used_of s.nodes
-  pub finalised : totals.finalised ≡ s.finalised
+-- the totals of a state
+abbrev pub totals_of : State → Totals
+totals_of s = record { ordinal = s.ordinal; objects = objects_of s.nodes; used = used_of s.nodes; finalised = s.finalised }
 
--- the totals are those of one of these states
-abbrev pub AreOfOneOf : List State → Totals → Type 0
-AreOfOneOf states totals = (s : State) × Contains states s × AreTotalsOf s totals
+-- the totals of the state were published last, and since the threads went those of these states
+pub record ArePublished (since : List State) (s : State) (region : OwnedView) : Type 0 where
+  pub last : region.last ≡ totals_of s
+  pub before : region.since ≡ map totals_of since
+
+-- the parts where the totals of their state were published
+abbrev pub published : Parts → Parts
+published p = record p { region = record p.region { last = totals_of (state_of p); since = posted p.region.since p.region.last } }

@@ -6,8 +6,8 @@ use Rattle.heap_cycle.specs.Pages.{word_count}
 use Rattle.heap_cycle.specs.Seat.{SeatView}
 use Rattle.cross_thread_region.specs.Histories.{entries_of}
 use Rattle.heap_cycle.specs.PlacesInWords.{kept_of}
-use Rattle.mark_worklist.specs.Families.{at}
-use Rattle.mark_worklist.specs.Shares.{taken_by_share}
+use Rattle.heap_cycle.specs.Families.{at}
+use Rattle.heap_cycle.specs.Shares.{taken_by_share}
 use Rattle.heap_cycle.specs.Marking.{GreyView}
 use Rattle.heap_cycle.specs.Objects.{refusals_told_of}
 use Rattle.heap_engine.specs.declared.heap_core.Core.TheInside.{Inside}
@@ -17,7 +17,7 @@ use Rattle.heap_cycle.specs.Parts.{setup_of, state_of, IsManned, IsReady}
 use Rattle.heap_cycle.specs.Region.{HasRegion}
 use Rattle.heap_cycle.specs.Owned.{IsToldLine}
 use Rattle.heap_engine.specs.CarriedOut.{IsOfJoin}
-use Rattle.heap_engine.specs.Going.{AreOfOneOf}
+use Rattle.heap_engine.specs.Going.{ArePublished}
 
 -- what the owner did with the items of lists with shares
 abbrev pub items_of : SeatView → GreyView → Items
@@ -39,6 +39,7 @@ view_of h = record {
   history = entries_of h.parts.region.taken;
   out = h.parts.region.out;
   since = h.since.value;
+  published = h.parts.region.last;
   lines = h.parts.region.told ++ outcome_lines h.outcome h.parts.cycle.ran;
   piece = entries_of (drop (length h.before.value) h.parts.region.taken);
   refusals = refusals_told_of h.parts.objects;
@@ -49,7 +50,7 @@ view_of h = record {
 }
 
 -- while the heap isn't closed the parts are ready, with the markers that ought to run, and the region belongs to them; once it is closed
--- no marker runs, no seat is lent and no pass is out; threads that run were handed totals of a state since they went; the lines that a
+-- no marker runs, no seat is lent and no pass is out; the board has the totals of the state, and had those of each one since the threads went; the lines that a
 -- join told are replies and entries, behind which the outcome has its last line alone; the outcome is one of a command, and has room for
 -- all nodes that a sweep can finalise; and what is counted stays within bounds
 pub record IsSound (h : Inside) : Type 0 where
@@ -60,7 +61,7 @@ pub record IsSound (h : Inside) : Type 0 where
   pub most : h.parts.cycle.rest.ordinal ≤ 1000000
   pub made : length h.parts.objects.nodes ≤ h.parts.cycle.rest.ordinal
   pub none_out : h.parts.region.awaiting ≡ false → h.parts.region.out ≡ []
-  pub totals : h.parts.region.awaiting ≡ true → AreOfOneOf h.since.value h.parts.region.totals
+  pub board : ArePublished h.since.value (state_of h.parts) h.parts.region
   pub replies : All IsToldLine h.parts.region.told
   pub joined : (h.parts.region.told ≡ []) ⊎ IsOfJoin h.outcome
   pub counted : IsCounted (state_of h.parts)

@@ -4,6 +4,7 @@ use Rattle.gc_graph.specs.declared.line.Line.{Line}
 use Rattle.gc_graph.specs.declared.region.Entry.{Entry}
 use Rattle.gc_graph.specs.State.{Setup, State}
 use Rattle.heap_cycle.specs.Note.{Note}
+use Rattle.thread_queues.specs.Totals.{Totals}
 use Rattle.heap_cycle.specs.Refused.{RefusalsTold, none_refused}
 
 -- what the owner did with the items of lists with shares: the places that it took, those of the objects that it claimed, and markers that
@@ -16,8 +17,8 @@ pub record Items : Type 0 where
   pub missed : List ℕ
 
 -- what was set up, the state of the graph, whether each node is marked and whether it is traced, the region's history as far as
--- commands have taken it, the numbers of the passes of threads that aren't joined, the states since threads went last, the lines of the
--- last outcome and the piece of the history that it took, how many pushes and notes were refused until now and until marking began, how
+-- commands have taken it, the numbers of the passes of threads that aren't joined, the states since threads went last, the totals that
+-- threads may read, the lines of the last outcome and the piece of the history that it took, how many pushes and notes were refused until now and until marking began, how
 -- many seats are lent to markers, whether the owner's last pop and steal found nothing, what it did with items, and whether the heap
 -- was closed
 pub record View : Type 0 where
@@ -28,6 +29,7 @@ pub record View : Type 0 where
   pub history : List Entry
   pub out : List ℕ
   pub since : List State
+  pub published : Totals
   pub lines : List Line
   pub piece : List Entry
   pub refusals : RefusalsTold

@@ -23,7 +23,7 @@ use std::sync::{Arc, Wait};
 use std::thread::Threads;
 
 /// Does the command, and ends its outcome.
-pub(crate) fn run<R: Threads + Wait, G: Gate + Send + Sync + 'static>(
+pub(crate) fn run<R: Threads + Wait + Copy + Send + 'static, G: Gate + Send + Sync + 'static>(
     rt: &R,
     parts: &mut Parts,
     outcome: &mut Outcome,
@@ -66,7 +66,7 @@ pub(crate) fn run<R: Threads + Wait, G: Gate + Send + Sync + 'static>(
         Command::Export { p, x } => export(rt, parts, outcome, p, x),
         Command::Import { x, p } => import(rt, parts, outcome, x, p),
         Command::At { j, order } => at(parts, outcome, j, order),
-        Command::ThreadsGo => go(rt, parts, outcome),
+        Command::ThreadsGo => go(rt, parts, outcome, gate),
         Command::ThreadsJoin => join(rt, parts, outcome),
     }
 }

@@ -12,6 +12,7 @@ ghost use Rattle.gc_graph.specs.Lawful.{IsAllowed, IsEndLine, summary_line};
 ghost use Rattle.gc_graph.specs.Shapes.{IsShape};
 ghost use Rattle.callback_table.specs.Table.{callback_kinds};
 ghost use Rattle.heap_engine.specs.Acted.{IsActed};
+ghost use Rattle.heap_engine.specs.Going.{totals_of};
 ghost use Rattle.heap_cycle.specs.Objects.{HaveCallbacks};
 ghost use Rattle.heap_engine.specs.View.{no_refusals, IsClosed};
 ghost use Rattle.heap_cycle.specs.Printed.{finalised_in, TellsNode};
@@ -43,8 +44,9 @@ pub struct Config {
 }
 
 /// A heap, with the callbacks of its program. It belongs to one thread (`include/cppgc/heap.h`), beside
-/// which its markers have threads of their own while marking goes on; all of them pass the gate. It is
-/// closed before it is let go, since a marker whose heap is gone goes on by itself.
+/// which its markers have threads of their own while marking goes on, and so have those of its script
+/// until they are joined; all of them pass the gate. It is closed before it is let go, since a thread
+/// whose heap is gone goes on by itself.
 #[derive(Drop)]
 pub struct Heap<'a, G> {
     callbacks: &'a CallbackTable,
@@ -76,6 +78,7 @@ impl<'a, G: Gate + Send + Sync + 'static> Heap<'a, G> {
         ensures state { IfOk result (λ h. h.core.state ≡ empty_state) }
         ensures history { IfOk result (λ h. h.core.history ≡ []) }
         ensures out { IfOk result (λ h. h.core.out ≡ []) }
+        ensures published { IfOk result (λ h. h.core.published ≡ totals_of empty_state) }
         ensures lines { IfOk result (λ h. h.core.lines ≡ []) }
         ensures closed { IfOk result (λ h. h.core.closed ≡ false) }
         ensures marked { IfOk result (λ h. h.core.marked ≡ []) }
@@ -94,8 +97,13 @@ impl<'a, G: Gate + Send + Sync + 'static> Heap<'a, G> {
         })
     }
 
-    /// Runs a command. The answer is the number of lines that `line` then tells.
-    pub fn act<R: Threads + Wait>(&mut self, rt: &R, command: &Command) -> u32
+    /// Runs a command, and publishes the heap's totals. The answer is the number of lines that `line` then
+    /// tells. `threads join` waits for the threads of the script, and a pause for the markers.
+    pub fn act<R: Threads + Wait + Copy + Send + 'static>(
+        &mut self,
+        rt: &R,
+        command: &Command,
+    ) -> u32
         requires few { self.old.core.state.ordinal < 1000000 }
         requires opened { self.old.core.closed ≡ false }
         requires allowed { IsAllowed (length self.old.core.setup.types) command.now }
@@ -146,7 +154,7 @@ impl<'a, G: Gate + Send + Sync + 'static> Heap<'a, G> {
 
     /// Ends the heap's run: markers that run are stopped and joined, and so are threads that run. Answers
     /// the line that counts what is not finalised.
-    pub fn close<R: Threads>(&mut self, rt: &R) -> Line
+    pub fn close<R: Threads + Wait>(&mut self, rt: &R) -> Line
         ensures line { IsEndLine self.old.core.setup self.old.core.state result }
         ensures begun { (j : ℕ) → Contains self.old.core.state.running j
             → HasDoneFirst self.old.core.state self.old.core.state.unprinted j }

@@ -13,12 +13,14 @@ ghost use Rattle.gc_graph.specs.Lawful.{IsAllowed, IsEndLine, summary_line};
 ghost use Rattle.gc_graph.specs.Shapes.{IsShape};
 ghost use Rattle.callback_table.specs.Table.{callback_kinds};
 ghost use Rattle.heap_engine.specs.Acted.{IsActed};
+ghost use Rattle.heap_engine.specs.Going.{totals_of};
 ghost use Rattle.heap_cycle.specs.Objects.{HaveCallbacks};
 ghost use Rattle.heap_engine.specs.View.{no_refusals, IsClosed};
 ghost use Rattle.heap_cycle.specs.Printed.{finalised_in, TellsNode};
 
 use crate::commands::run;
 use crate::heap::Config;
+use crate::publishing::publish;
 use crate::since::{StateLists, after, no_states};
 use callback_table::CallbackTable;
 use cross_thread_region::Histories;
@@ -75,6 +77,7 @@ impl Core {
         ensures state { IfOk result (λ h. h.state ≡ empty_state) }
         ensures history { IfOk result (λ h. h.history ≡ []) }
         ensures out { IfOk result (λ h. h.out ≡ []) }
+        ensures published { IfOk result (λ h. h.published ≡ totals_of empty_state) }
         ensures lines { IfOk result (λ h. h.lines ≡ []) }
         ensures closed { IfOk result (λ h. h.closed ≡ false) }
         ensures marked { IfOk result (λ h. h.marked ≡ []) }
@@ -111,7 +114,7 @@ impl Core {
         })
     }
 
-    pub fn act<R: Threads + Wait, G: Gate + Send + Sync + 'static>(
+    pub fn act<R: Threads + Wait + Copy + Send + 'static, G: Gate + Send + Sync + 'static>(
         &mut self,
         rt: &R,
         command: &Command,
@@ -145,6 +148,7 @@ impl Core {
         );
         self.parts.objects.seat_has_all_words();
         self.parts.cycle.count_command();
+        publish(rt, &mut self.parts);
         self.parts.region.told_count() + self.outcome.count(self.parts.cycle.ran())
     }
 
@@ -193,7 +197,7 @@ impl Core {
         }
     }
 
-    pub fn close<R: Threads>(&mut self, rt: &R) -> Line
+    pub fn close<R: Threads + Wait>(&mut self, rt: &R) -> Line
         ensures line { IsEndLine self.old.setup self.old.state result }
         ensures begun { (j : ℕ) → Contains self.old.state.running j
             → HasDoneFirst self.old.state self.old.state.unprinted j }
@@ -205,7 +209,7 @@ impl Core {
     }
 
     /// Joins the markers of an open cycle, which is left without a pause, and the threads that run.
-    fn stop<R: Threads>(&mut self, rt: &R)
+    fn stop<R: Threads + Wait>(&mut self, rt: &R)
         ensures begun { (j : ℕ) → Contains self.old.state.running j
             → HasDoneFirst self.old.state self.old.state.unprinted j }
         ensures closed { IsClosed self.old self.new }
@@ -213,7 +217,7 @@ impl Core {
         if !self.closed {
             heap_cycle::dismiss(rt, &mut self.parts);
         }
-        self.parts.region.close();
+        self.parts.region.close(rt);
         self.closed = true;
     }
 }

@@ -6,8 +6,8 @@
 //! The parts: `Heap`, `Config`, and `Core`, which has the model: `Parts` (of `heap_cycle`), among which
 //! is the region with the threads, and an outcome. `commands` says which function does a command; these
 //! stand by their subjects in `creating`, `fields`, `pairs`, `slots`, `stacking`, `cycles`, `totals`,
-//! `region` and `threads`, and end the outcome. `since` is for contracts alone. Next down are
-//! `heap_cycle`, `heap_roots`, `heap_region` and `heap_objects`.
+//! `region` and `threads`, and end the outcome. `publishing` tells threads what the heap holds after each
+//! command. `since` is for contracts alone. Next down is `heap_cycle`.
 //!
 //! What is proved: `act` is a step from the heap's own state to its new state, for every command
 //! that is allowed and stands in its section, and its lines are those of the step; the pieces that
@@ -20,7 +20,9 @@
 //! in the cycle; beside markers the owner's last pop and steal found nothing, or it took 2^32 - 1
 //! items. Each item that it takes beside them it claims, finds traced or notes, unless a note was
 //! refused. A heap that is closed has no marker and no thread that runs, and what it has taken of a
-//! thread's entries are those of its first orders. A join tells totals of states since threads went.
+//! thread's entries are those of its first orders. The totals of each state are published; those that a
+//! join tells are of states from the one before threads went to the one before it, and those of one
+//! thread never get older.
 //!
 //! What is only tested or not said: that memory suffices, and how long a command takes.
 #![tactic(auto)]
@@ -32,6 +34,7 @@ mod fields;
 mod heap;
 mod heap_core;
 mod pairs;
+mod publishing;
 mod region;
 mod since;
 mod slots;

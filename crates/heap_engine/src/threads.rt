@@ -1,17 +1,14 @@
 // The commands on the threads of a script (`include/cppgc/cross-thread-persistent.h`).
 
-ghost use Rattle.std.specs.Prelude.{◌≡◌, ◌≤◌, true, false, length};
+ghost use Rattle.std.specs.Prelude.{◌≡◌, ◌≤◌, true, false};
 ghost use Rattle.gc_graph.specs.declared.command.Command.TheVariants as C;
 ghost use Rattle.gc_graph.specs.Lawful.{IsAllowedOrder};
-ghost use Rattle.gc_graph.specs.ThreadLaw.{IsCounted};
-ghost use Rattle.heap_cycle.specs.Parts.{state_of};
 ghost use Rattle.heap_engine.specs.CarriedOut.{IsAsked, IsCarriedOut};
-ghost use Rattle.heap_engine.specs.Going.{AreTotalsOf};
 
 use gc_graph::{Line, NoMemory, Order};
-use heap_cycle::{Outcome, Parts};
-use std::sync::Wait;
-use thread_queues::Totals;
+use heap_cycle::{Gate, Outcome, Parts};
+use std::sync::{Arc, Wait};
+use std::thread::Threads;
 
 /// The order waits for its thread. Want of memory is free.
 pub fn at(parts: &mut Parts, outcome: &mut Outcome, j: u32, order: Order)
@@ -29,19 +26,23 @@ pub fn at(parts: &mut Parts, outcome: &mut Outcome, j: u32, order: Order)
     outcome.end(line);
 }
 
-/// The threads that have orders go, and are handed the heap's totals.
-pub fn go<R: Wait>(rt: &R, parts: &mut Parts, outcome: &mut Outcome)
+/// A thread is started for each queue that isn't empty.
+pub fn go<R: Threads + Wait + Copy + Send + 'static, G: Gate + Send + Sync + 'static>(
+    rt: &R,
+    parts: &mut Parts,
+    outcome: &mut Outcome,
+    gate: &Arc<G>,
+)
     requires asked { IsAsked parts.old outcome.old }
     requires joined { parts.old.region.awaiting ≡ false }
     ensures done { IsCarriedOut C.ThreadsGo parts.old parts.new outcome.old outcome.new }
 {
-    let totals = totals_of(parts);
-    let m = parts.region.go(rt, totals);
+    let m = parts.region.go(rt, gate);
     outcome.end(Line::Going { m });
 }
 
 /// The threads are joined, and what they did is told.
-pub fn join<R: Wait>(rt: &R, parts: &mut Parts, outcome: &mut Outcome)
+pub fn join<R: Threads + Wait>(rt: &R, parts: &mut Parts, outcome: &mut Outcome)
     requires asked { IsAsked parts.old outcome.old }
     requires awaited { parts.old.region.awaiting ≡ true }
     ensures done { IsCarriedOut C.ThreadsJoin parts.old parts.new outcome.old outcome.new }
@@ -51,21 +52,4 @@ pub fn join<R: Wait>(rt: &R, parts: &mut Parts, outcome: &mut Outcome)
     let m = parts.region.join(rt, &mut parts.objects);
     parts.take_since(&before);
     outcome.end(Line::Joined { m });
-}
-
-/// The heap's totals.
-fn totals_of(parts: &Parts) -> Totals
-    requires counted { IsCounted (state_of parts.now) }
-    requires few { parts.now.cycle.rest.ordinal ≤ 1000000 }
-    requires few_nodes { length parts.now.objects.nodes ≤ 1000000 }
-    ensures { AreTotalsOf (state_of parts.now) result }
-{
-    let (objects, used, _pages) = parts.objects.totals();
-    let counts = parts.cycle.counts();
-    Totals {
-        ordinal: counts.ordinal,
-        objects: u64::from(objects),
-        used: u64::from(used),
-        finalised: counts.finalised,
-    }
 }

@@ -1,5 +1,6 @@
 -- A call of the owner: its entry is made behind what it found, and all of that is taken.
 use Rattle.std.proofs.Common.{refl, ◌≡◌, ℕ, ◌+◌, ◌<◌, ◌≤◌, false, List, [], ◌∷◌, ◌++◌, length, take, drop, All, None, sym, ap, ◌∙◌, subst, inl, inr, arith}
+use Rattle.std.specs.Arc.{arc_value}
 use Rattle.std.specs.Prelude.{Contains, is_some, option_map}
 use Rattle.std.proofs.Math.Seq.{drop-append_seam, take-append_seam}
 use Rattle.std.proofs.lemmas.List.{append_assoc, drop-append-le, length-append, map-append}
@@ -85,7 +86,7 @@ module _ {r : Inside} {op : Op} {place : ℕ} {mid : PassView} (made : HasMade r
   few_taken = omega (arith, mid_long)
 
   -- a call may be made again
-  pub still_ready : IsPassReady r.region mid
+  pub still_ready : IsPassReady (arc_value r.region) mid
   still_ready = record {
     lock = ap (λ (p : PassView). p.lock) made.entered ∙ made.owned.owner.lock;
     free = ap (λ (p : PassView). p.turn) made.entered ∙ made.owned.owner.turn ∙ ap (λ held. option_map (λ (h : HeldView). (h.ticket, h.history)) held) made.quiet;

@@ -64,7 +64,7 @@ module _ (r : Inside) (owned : AreOwned r) where
     out_above n there none = elim (cases_Bool r.threads.awaiting) [
       | inl awaits ↦
           let runs : Contains r.threads.running n = All-contains (Contains r.threads.running) r.pass.out n owned.outs.running there in
-          omega (arith, none, thread_above r.threads.queues n (subst (λ (js : List ℕ). Contains js n) (owned.done awaits opened).all runs))
+          omega (arith, none, thread_above r.threads.queues n (subst (λ (js : List ℕ). Contains js n) (owned.started awaits opened).all runs))
       | inr still ↦ (let never : Contains [] n = subst (λ (js : List ℕ). Contains js n) (owned.none_out still) there in omega (arith, never.1))
     ]
 

@@ -6,8 +6,9 @@ use Rattle.gc_graph.specs.History.{IsLegal}
 use Rattle.gc_graph.specs.State.{Node}
 use Rattle.cross_thread_region.specs.Calls.{AreByRight, Finds, HeldView, PassView, after_turn, with_turn}
 use Rattle.cross_thread_region.specs.Histories.{entries_of}
-use Rattle.thread_queues.specs.Going.{HaveMet}
-use Rattle.thread_queues.specs.Queues.{QueuesView}
+use Rattle.gc_graph.specs.Lawful.{TotalsNeverFall}
+use Rattle.thread_queues.specs.Going.{HaveReturned, TellSomeOf}
+use Rattle.thread_queues.specs.Queues.{QueuesView, posted}
 use Rattle.heap_objects.specs.Objects.{ObjectsView}
 use Rattle.heap_region.specs.declared.owned.OwnedRegion.TheInside.{Inside}
 use Rattle.heap_region.specs.Calls.{HasJoined}
@@ -23,10 +24,13 @@ pub record HasMet (r : Inside) (left : QueuesView) (mid : PassView) (held : Held
   pub opened : r.closed ≡ false
   pub awaits : r.threads.awaiting ≡ true
   pub mid_is : mid ≡ record r.pass { seen = mid.seen; out = [] }
-  pub met : HaveMet r.threads.passes r.pass mid.seen
+  pub replies : List Line
+  pub returned : HaveReturned r.threads r.pass mid.seen replies
+  pub told : TellSomeOf (posted r.threads.since r.threads.last) replies
+  pub fall : TotalsNeverFall replies
   pub legal : IsLegal (entries_of mid.seen)
   pub right : AreByRight mid.seen
-  pub left_is : left ≡ joined_queues r owned opened awaits mid.seen met legal right
+  pub left_is : left ≡ joined_queues r owned opened awaits mid.seen replies returned told fall legal right
   pub finds : Finds mid held.history
   pub looking_is : looking ≡ with_turn mid held
 
@@ -42,7 +46,7 @@ module _ {r : Inside} {left : QueuesView} {mid : PassView} {held : HeldView} {lo
   pub may_look : (nodes : List Node) → IsHandled nodes (taken_of r.pass r.taken) → (k : ℕ) → r.taken ≤ k → k < length held.history → IsHandled nodes (take k held.history)
   may_look nodes handled k above below =
       subst (λ h. IsHandled nodes (take k h)) (sym history_is)
-      (handled_between r m.owned m.opened m.awaits mid.seen m.met m.legal m.right nodes handled k above (omega (arith, below, ap length history_is)))
+      (handled_between r m.owned m.opened m.awaits mid.seen m.replies m.returned m.told m.fall m.legal m.right nodes handled k above (omega (arith, below, ap length history_is)))
 
   looking_seen : looking.seen ≡ mid.seen
   looking_seen = ap (λ (p : PassView). p.seen) m.looking_is
@@ -55,7 +59,7 @@ module _ {r : Inside} {left : QueuesView} {mid : PassView} {held : HeldView} {lo
     all_taken = taken_is ∙ ap length history_is
 
     pub few_printed : r.printed ≤ taken
-    few_printed = omega (arith, m.owned.printed_few, m.owned.few, all_taken, ap length m.met.grown, length-append r.pass.seen m.met.rest)
+    few_printed = omega (arith, m.owned.printed_few, m.owned.few, all_taken, ap length m.returned.met.grown, length-append r.pass.seen m.returned.met.rest)
 
     -- the fields where the turn is kept, and where it is given back
     abbrev pub kept_fields : Inside
@@ -65,16 +69,16 @@ module _ {r : Inside} {left : QueuesView} {mid : PassView} {held : HeldView} {lo
     ended_fields passed = record r { pass = passed; threads = left; held = None; taken = taken; printed = taken; shown = r.printed }
 
     told_len : (passed : PassView) → passed.seen ≡ mid.seen
-        → length (lines_told true r.threads.replies r.printed (taken_of passed taken)) ≡ length r.threads.replies + (taken - r.printed)
+        → length (lines_told true m.replies r.printed (taken_of passed taken)) ≡ length m.replies + (taken - r.printed)
     told_len passed seen =
-        lines_len r.threads.replies r.printed (taken_of passed taken)
-        ∙ ap (λ n. length r.threads.replies + (n - r.printed))
+        lines_len m.replies r.printed (taken_of passed taken)
+        ∙ ap (λ n. length m.replies + (n - r.printed))
         (length-take-le taken passed.seen (omega (arith, all_taken, ap length seen)))
 
-    pub turn_kept : 0 < length r.threads.replies + (taken - r.printed) → AreOwned kept_fields
+    pub turn_kept : 0 < length m.replies + (taken - r.printed) → AreOwned kept_fields
     turn_kept some =
         subst (λ (queues : QueuesView). AreOwned (record kept_fields { threads = queues })) (sym m.left_is)
-        (stays_owned r m.owned m.opened m.awaits mid.seen m.met m.legal m.right looking (Some held) taken looking_seen looking_out all_taken
+        (stays_owned r m.owned m.opened m.awaits mid.seen m.replies m.returned m.told m.fall m.legal m.right looking (Some held) taken looking_seen looking_out all_taken
         (record {
           lock = ap (λ (p : PassView). p.lock) (m.looking_is ∙ ap (λ (p : PassView). with_turn p held) m.mid_is) ∙ m.owned.owner.lock;
           first = ap (λ (p : PassView). p.number) (m.looking_is ∙ ap (λ (p : PassView). with_turn p held) m.mid_is) ∙ m.owned.owner.first;
@@ -93,7 +97,7 @@ module _ {r : Inside} {left : QueuesView} {mid : PassView} {held : HeldView} {lo
         let whole : passed ≡ after_turn (record r.pass { seen = mid.seen; out = [] }) held.history =
         is ∙ ap (λ (p : PassView). after_turn p held.history) (m.looking_is ∙ ap (λ (p : PassView). with_turn p held) m.mid_is) in
         subst (λ (queues : QueuesView). AreOwned (record (ended_fields passed) { threads = queues })) (sym m.left_is)
-        (stays_owned r m.owned m.opened m.awaits mid.seen m.met m.legal m.right passed None taken (ap (λ (p : PassView). p.seen) is ∙ history_is)
+        (stays_owned r m.owned m.opened m.awaits mid.seen m.replies m.returned m.told m.fall m.legal m.right passed None taken (ap (λ (p : PassView). p.seen) is ∙ history_is)
         (ap (λ (p : PassView). p.out) whole) all_taken
         (record {
           lock = ap (λ (p : PassView). p.lock) whole ∙ m.owned.owner.lock;
@@ -106,22 +110,22 @@ module _ {r : Inside} {left : QueuesView} {mid : PassView} {held : HeldView} {lo
     pub joined_kept : HasJoined (owned_view r) (owned_view kept_fields) (length r.threads.running)
     joined_kept =
         subst (λ (queues : QueuesView). HasJoined (owned_view r) (owned_view (record kept_fields { threads = queues })) (length r.threads.running)) (sym m.left_is)
-        (has_joined r m.owned m.opened m.awaits mid.seen m.met m.legal m.right looking (Some held) taken looking_seen looking_out all_taken refl)
+        (has_joined r m.owned m.opened m.awaits mid.seen m.replies m.returned m.told m.fall m.legal m.right looking (Some held) taken looking_seen looking_out all_taken refl)
 
-    pub joined_ended : (passed : PassView) → passed ≡ after_turn looking held.history → length r.threads.replies + (taken - r.printed) ≡ 0
+    pub joined_ended : (passed : PassView) → passed ≡ after_turn looking held.history → length m.replies + (taken - r.printed) ≡ 0
         → HasJoined (owned_view r) (owned_view (ended_fields passed)) (length r.threads.running)
     joined_ended passed is none =
         let seen : passed.seen ≡ mid.seen = ap (λ (p : PassView). p.seen) is ∙ history_is in
         let out : passed.out ≡ [] = ap (λ (p : PassView). p.out) is ∙ looking_out in
         subst (λ (queues : QueuesView). HasJoined (owned_view r) (owned_view (record (ended_fields passed) { threads = queues })) (length r.threads.running)) (sym m.left_is)
-        (has_joined r m.owned m.opened m.awaits mid.seen m.met m.legal m.right passed None taken seen out all_taken
-        (sym (none_of (lines_told true r.threads.replies r.printed (taken_of passed taken)) (told_len passed seen ∙ none))))
+        (has_joined r m.owned m.opened m.awaits mid.seen m.replies m.returned m.told m.fall m.legal m.right passed None taken seen out all_taken
+        (sym (none_of (lines_told true m.replies r.printed (taken_of passed taken)) (told_len passed seen ∙ none))))
 
     pub looked_kept : (objects looked : ObjectsView) → HasLooked objects (take r.taken held.history) (entries_between r.taken taken held.history) looked
         → LooksAgain objects (owned_view r) (owned_view kept_fields) looked
     looked_kept objects looked looks =
         subst (λ (queues : QueuesView). LooksAgain objects (owned_view r) (owned_view (record kept_fields { threads = queues })) looked) (sym m.left_is)
-        (has_looked r m.owned m.opened m.awaits mid.seen m.met m.legal m.right looking (Some held) taken looking_seen looking_out all_taken objects looked held.history
+        (has_looked r m.owned m.opened m.awaits mid.seen m.replies m.returned m.told m.fall m.legal m.right looking (Some held) taken looking_seen looking_out all_taken objects looked held.history
         history_is looks)
 
     pub looked_ended : (passed : PassView) → passed ≡ after_turn looking held.history → (objects looked : ObjectsView)
@@ -131,4 +135,4 @@ module _ {r : Inside} {left : QueuesView} {mid : PassView} {held : HeldView} {lo
         let seen : passed.seen ≡ mid.seen = ap (λ (p : PassView). p.seen) is ∙ history_is in
         let out : passed.out ≡ [] = ap (λ (p : PassView). p.out) is ∙ looking_out in
         subst (λ (queues : QueuesView). LooksAgain objects (owned_view r) (owned_view (record (ended_fields passed) { threads = queues })) looked) (sym m.left_is)
-        (has_looked r m.owned m.opened m.awaits mid.seen m.met m.legal m.right passed None taken seen out all_taken objects looked held.history history_is looks)
+        (has_looked r m.owned m.opened m.awaits mid.seen m.replies m.returned m.told m.fall m.legal m.right passed None taken seen out all_taken objects looked held.history history_is looks)

@@ -8,7 +8,7 @@ use Rattle.cross_thread_region.specs.Calls.{HeldView, PassView, seeing}
 use Rattle.cross_thread_region.specs.Histories.{entries_of}
 use Rattle.thread_queues.specs.Queues.{QueuesView}
 use Rattle.heap_region.specs.declared.owned.OwnedRegion.TheInside.{Inside}
-use Rattle.heap_region.specs.Inside.{HaveDone, IsHeld, IsOwners, lines_told, taken_of}
+use Rattle.heap_region.specs.Inside.{HaveStarted, IsHeld, IsOwners, lines_told, taken_of}
 use Rattle.heap_region.proofs.Fields.{AreOwned, called_fields, owned_view}
 
 none_held : (held : Option HeldView) (pass : PassView) (queues : QueuesView) (taken shown : ℕ) → ((h : HeldView) → held ≡ Some h → IsHeld pass queues h taken shown)
@@ -49,8 +49,7 @@ module _ (r : Inside) (owned : AreOwned r) (quiet : r.held ≡ None) (opened : r
         none_out = owned.none_out;
         none_run = owned.none_run;
         owners = owners;
-        done = λ awaits still_open.
-            subst (HaveDone r.threads) (sym (take-append-le r.printed r.pass.seen more printed_seen)) (owned.done awaits still_open);
+        started = λ awaits still_open.
+            subst (HaveStarted r.threads) (sym (take-append-le r.printed r.pass.seen more printed_seen)) (owned.started awaits still_open);
         begun = λ shut. absurd (true≢false (sym shut ∙ opened));
-        told = owned.told;
       })

@@ -1,4 +1,5 @@
 -- A pause makes the owner's entry, and all that its pass has seen is taken.
+use Rattle.std.specs.Arc.{arc_value}
 use Rattle.std.proofs.Common.{◌≡◌, ◌≢◌, ℕ, ◌+◌, ◌-◌, Bool, false, true, List, [], ◌∷◌, ◌++◌, length, take, None, refl, sym, ap, ◌∙◌, subst, arith}
 use Rattle.std.specs.Prelude.{Contains, option_map}
 use Rattle.std.proofs.Math.Seq.{take-length}
@@ -66,7 +67,7 @@ module _ (r : Inside) (owned : AreOwned r) (opened : r.closed ≡ false) (quiet 
   seen_is = whole r owned opened r.pass.seen itself ∙ ap (λ xs. taken_of r.pass r.taken ++ xs) (sym (append-nil ahead))
 
   -- what the owner's pass has seen may be paused with
-  pub may_pause : (nodes : List Node) → IsHandled nodes (taken_of r.pass r.taken) → is_started (taken_of r.pass r.taken) ≡ true → IsPausable nodes r.region r.pass
+  pub may_pause : (nodes : List Node) → IsHandled nodes (taken_of r.pass r.taken) → is_started (taken_of r.pass r.taken) ≡ true → IsPausable nodes (arc_value r.region) r.pass
   may_pause nodes handled started =
       let long : length r.pass.seen ≡ length (taken_of r.pass r.taken) + length ahead =
       ap length (whole r owned opened r.pass.seen itself) ∙ length-append (taken_of r.pass r.taken) ahead in

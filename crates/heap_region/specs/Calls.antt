@@ -13,9 +13,10 @@ use Rattle.gc_graph.specs.State.{Node}
 use Rattle.cross_thread_region.specs.declared.chronicle.PlacedEntry.{PlacedEntry}
 use Rattle.cross_thread_region.specs.Calls.{Begins, history_with_own}
 use Rattle.cross_thread_region.specs.Histories.{entries_of, is_started, slots_of}
-use Rattle.thread_queues.specs.Going.{AreTotals}
-use Rattle.thread_queues.specs.Queues.{queue_in, queues_left, threads_in}
-use Rattle.thread_queues.specs.declared.totals.Totals.{Totals}
+use Rattle.gc_graph.specs.Lawful.{TotalsNeverFall}
+use Rattle.thread_queues.specs.Going.{TellSomeOf}
+use Rattle.thread_queues.specs.Queues.{posted, queue_in, queues_left, threads_in}
+use Rattle.thread_queues.specs.Totals.{Totals}
 use Rattle.heap_region.specs.Owned.{OwnedView, found_of, untold_of}
 
 -- what a call finds behind what was taken: orders of threads that run, whose passes are out, and which are legal there; and no more was
@@ -38,12 +39,17 @@ pub record HasPauseEntry (nodes : List Node) (old new : OwnedView) : Type 0 wher
   pub entry : HasEntered (O.Pause (dying_slots nodes (slots_of (found_of new)))) 0 old new
   pub weak : NamesWeakSlots (dying_slots nodes (slots_of (found_of new))) (slots_of (found_of new))
 
--- the threads that have orders went, and were handed these totals
-abbrev pub HaveGoneOut : OwnedView → Totals → OwnedView → Type 0
-HaveGoneOut old totals new = new ≡ record old { running = threads_in old.queues; awaiting = true; totals = totals; out = new.out }
+-- these totals were published
+abbrev pub HasPublished : OwnedView → Totals → OwnedView → Type 0
+HasPublished old totals new = new ≡ record old { last = totals; since = posted old.since old.last }
+
+-- the threads that have orders went
+abbrev pub HaveGoneOut : OwnedView → OwnedView → Type 0
+HaveGoneOut old new = new ≡ record old { running = threads_in old.queues; awaiting = true; since = []; out = new.out }
 
 -- the threads that ran were joined, and all that they have done was taken: each did its orders, with these answers, and the join tells
--- the answers, thread after thread, and then the entries that none has told; totals are those that the threads were handed
+-- the answers, thread after thread, and then the entries that none has told; totals are some of those published since the threads went,
+-- from the last ones before, and those of one thread never get older
 pub record HasJoined (old new : OwnedView) (count : ℕ) : Type 0 where
   pub others : List PlacedEntry
   pub found : IsFound old others
@@ -56,7 +62,8 @@ pub record HasJoined (old new : OwnedView) (count : ℕ) : Type 0 where
       new.told
       ≡ flat_map (λ j. map (reply_line j) (answers j)) old.running
       ++ map (λ entry. L.Entry entry) (untold_of (record old { taken = new.taken }))
-  pub totals : (j o n u f : ℕ) → Contains new.told (L.ReplyTotals j o n u f) → AreTotals old.totals o n u f
+  pub totals : TellSomeOf (posted old.since old.last) new.told
+  pub fall : TotalsNeverFall new.told
   pub count_is : count ≡ length old.running
   pub rest :
       new

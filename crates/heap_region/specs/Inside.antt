@@ -1,16 +1,14 @@
 -- What the crate's own code cites: what is true of the region's fields between two calls.
 use Rattle.std.specs.Prelude.{◌≡◌, ℕ, ◌≤◌, Bool, true, false, List, [], ◌++◌, length, map, take, drop, All, Contains, Option, Some, option_map, if◌then◌else◌}
-use Rattle.std.specs.List.{flat_map}
 use Rattle.gc_graph.specs.declared.line.Line.{Line}
 use Rattle.gc_graph.specs.declared.line.Line.TheVariants as L
 use Rattle.gc_graph.specs.declared.region.Entry.{Entry}
-use Rattle.gc_graph.specs.RegionSteps.{Answer, HasDone, entries_by, reply_line}
+use Rattle.gc_graph.specs.RegionSteps.{Answer, HasDone, entries_by}
 use Rattle.cross_thread_region.specs.declared.chronicle.PlacedEntry.{PlacedEntry}
 use Rattle.cross_thread_region.specs.Calls.{HeldView, PassView, RegionView}
 use Rattle.cross_thread_region.specs.Histories.{entries_of}
-use Rattle.thread_queues.specs.Going.{AreOut, AreTotals, HasDoneWith}
+use Rattle.thread_queues.specs.Going.{AreOut}
 use Rattle.thread_queues.specs.Queues.{QueuesView, queue_in, threads_in}
-use Rattle.thread_queues.specs.declared.totals.Totals.{Totals}
 
 -- what was taken of the history: the first entries that the pass has seen
 abbrev pub taken_of : PassView → ℕ → List PlacedEntry
@@ -39,25 +37,21 @@ pub record IsHeld (pass : PassView) (queues : QueuesView) (held : HeldView) (tak
   pub joined : queues.awaiting ≡ false
   pub tells : lines_told true queues.replies shown (taken_of pass taken) ≡ [] → ⊥
 
--- the threads that run have done their orders, each with a pass that is out: these are their answers, which their queues hold as replies,
--- and their entries are among those that the pass has seen behind what joins have told
-pub record HaveDone (queues : QueuesView) (told : List PlacedEntry) : Type 0 where
-  pub answers : ℕ → List Answer
-  pub done : (j : ℕ) → Contains queues.running j → HasDoneWith queues.passes told j (queue_in queues.queues j) (answers j)
-  pub replies : queues.replies ≡ flat_map (λ j. map (reply_line j) (answers j)) queues.running
+-- the threads that run went, and are away: their passes had seen, behind what joins have told, entries of the owner alone
+pub record HaveStarted (queues : QueuesView) (told : List PlacedEntry) : Type 0 where
+  pub away : queues.away ≡ true
   pub all : queues.running ≡ threads_in queues.queues
+  pub seen : (p : PassView) → Contains queues.passes p → (rest : List PlacedEntry) × (p.seen ≡ told ++ rest) × All IsOwners (entries_of rest)
 
 -- thread j has done the first of its orders: these are its entries among those that were taken and that no join has told
 abbrev pub HasBegunIn : QueuesView → List Entry → ℕ → Type 0
 HasBegunIn queues untold j = (n : ℕ) × (answers : List Answer) × HasDone j (take n (queue_in queues.queues j)) answers (entries_by j untold)
 
--- the pass is the owner's, and those of threads that run are out; what was taken are the first entries that the pass has seen, and, until
--- the region is closed, the others name passes that are out; entries that no join has told are the owner's while no join is awaited, and
--- else the threads that run have done their orders, or, where the region is closed, those that were taken are of their first orders;
--- and the totals in replies are those that were handed over
+-- the pass is the owner's, and those of threads that are away are out; what was taken are the first entries that the pass has seen, and,
+-- until the region is closed, the others name passes that are out; entries that no join has told are the owner's while no join is awaited,
+-- and else the threads that run are away, or, where the region is closed, those that were taken are of their first orders
 pub record IsOwned
-    (region : RegionView) (pass : PassView) (queues : QueuesView) (held : Option HeldView) (totals : Totals) (taken printed shown : ℕ) (closed : Bool)
-    : Type 0 where
+    (region : RegionView) (pass : PassView) (queues : QueuesView) (held : Option HeldView) (taken printed shown : ℕ) (closed : Bool) : Type 0 where
   pub owner : IsOwnersPass region pass held
   pub holds : (h : HeldView) → held ≡ Some h → IsHeld pass queues h taken shown
   pub outs : AreOut region pass queues
@@ -68,6 +62,5 @@ pub record IsOwned
   pub none_out : queues.awaiting ≡ false → pass.out ≡ []
   pub none_run : queues.awaiting ≡ false → queues.running ≡ []
   pub owners : queues.awaiting ≡ false → All IsOwners (entries_of (drop printed (taken_of pass taken)))
-  pub done : queues.awaiting ≡ true → closed ≡ false → HaveDone queues (take printed pass.seen)
+  pub started : queues.awaiting ≡ true → closed ≡ false → HaveStarted queues (take printed pass.seen)
   pub begun : closed ≡ true → (j : ℕ) → Contains queues.running j → HasBegunIn queues (entries_of (drop printed (taken_of pass taken))) j
-  pub told : (j o n u f : ℕ) → Contains queues.replies (L.ReplyTotals j o n u f) → AreTotals totals o n u f

@@ -8,6 +8,9 @@ pub mod Taking
 pub mod Took
 pub mod ThreadEntries
 -- Words of the crates below that the crates above name too.
+pub use Rattle.thread_queues.specs.Boards
+pub use Rattle.thread_queues.specs.Falling
+pub use Rattle.thread_queues.specs.Totals
 pub use Rattle.heap_objects.specs.AmongNodes
 pub use Rattle.heap_objects.specs.Barrier
 pub use Rattle.heap_objects.specs.Crews

@@ -8,19 +8,22 @@ use Rattle.gc_graph.specs.RegionSteps.{Answer, HasDone, entries_by}
 use Rattle.gc_graph.specs.State.{State}
 use Rattle.cross_thread_region.specs.declared.chronicle.PlacedEntry.{PlacedEntry}
 use Rattle.cross_thread_region.specs.Histories.{entries_of, slots_of}
-use Rattle.thread_queues.specs.declared.totals.Totals.{Totals}
+use Rattle.thread_queues.specs.Boards.{zeros}
 use Rattle.thread_queues.specs.Queues.{queue_in}
+use Rattle.thread_queues.specs.Totals.{Totals}
 
 -- what the owner has taken of the history; the numbers of the passes that are out; the orders that wait for each thread, which
--- threads run, whether a join is awaited, and the totals that the threads that went last were handed; how many of the entries joins
--- have told; the lines that the last command tells before its last one, where it was a join; and whether the region was closed
+-- threads run, and whether a join is awaited; the totals published last, with those published since the threads went, from the last ones
+-- before they went; how many of the entries joins have told; the lines that the last command tells before its last one, where it was a
+-- join; and whether the region was closed
 pub record OwnedView : Type 0 where
   pub taken : List PlacedEntry
   pub out : List ℕ
   pub queues : List (List Order)
   pub running : List ℕ
   pub awaiting : Bool
-  pub totals : Totals
+  pub last : Totals
+  pub since : List Totals
   pub printed : ℕ
   pub told : List Line
   pub closed : Bool
@@ -33,7 +36,8 @@ nothing_owned = record {
   queues = replicate 8 [];
   running = [];
   awaiting = false;
-  totals = record { ordinal = 0; objects = 0; used = 0; finalised = 0 };
+  last = zeros;
+  since = [];
   printed = 0;
   told = [];
   closed = false;

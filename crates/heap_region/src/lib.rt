@@ -2,7 +2,7 @@
 //!
 //! What it is: the slots that a heap's owner shares with the threads of a script
 //! (`include/cppgc/cross-thread-persistent.h`), as one value: the region, the owner's pass, the
-//! threads' orders, and what of the history the owner has taken.
+//! threads of the script, and what of the history the owner has taken.
 //!
 //! The parts: `OwnedRegion`, with the owner's calls in `calls` (exports, imports and the start of a
 //! collection), the pause in `pausing`, the script's threads in `threads`, and what a join tells in
@@ -14,13 +14,14 @@
 //! it is taken, and what it read from weak slots may be kept while marking goes on. Where memory is
 //! wanting nothing is taken. A pause clears exactly the weak slots that name a dead node, keeps what
 //! strong slots named when it came, and needs no memory, because the start before it made the room.
-//! Threads that go do the orders of their queues, each its own in turn, and a join takes their
-//! entries and tells their answers and then the entries that none has told, from the history that it
-//! holds until the next command. A region that is closed has joined its threads, keeps what was
-//! taken, and tells that what was taken of a thread's entries is of its first orders.
+//! Threads that go do the orders of their queues beside the owner, and a join takes their entries and
+//! tells their answers and then the entries that none has told, from the history that it holds until
+//! the next command. Totals that it tells were published from the last ones before the threads went to
+//! the last ones before it. A region that is closed has joined its threads, keeps what was taken, and
+//! tells that what was taken of a thread's entries is of its first orders.
 //!
-//! What is only tested or not said: that memory suffices, and how entries of several threads
-//! follow each other.
+//! What is only tested or not said: that memory suffices, that a thread is started, and how entries of
+//! several threads follow each other.
 #![tactic(auto)]
 
 mod calls;

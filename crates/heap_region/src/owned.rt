@@ -9,7 +9,8 @@ use gc_graph::NoMemory;
 use ghost_values::GhostValue;
 use std::alloc::Global;
 use std::marker::Model;
-use thread_queues::{ThreadQueues, Totals};
+use std::sync::Arc;
+use thread_queues::ThreadQueues;
 
 /// How many slots there are.
 const SLOTS: u32 = 32;
@@ -18,11 +19,9 @@ const SLOTS: u32 = 32;
 /// entries that were taken. Only the thread that owns the heap calls it.
 #[derive(Drop)]
 pub struct OwnedRegion {
-    pub(crate) region: Region,
+    pub(crate) region: Arc<Region>,
     pub(crate) pass: Pass,
     pub(crate) threads: ThreadQueues,
-    /// What the threads that went last were handed.
-    pub(crate) totals: Totals,
     /// How many entries were taken, of those that the pass has seen.
     pub(crate) taken: u32,
     /// How many entries joins have told, and how many they had before the last one.
@@ -35,6 +34,7 @@ pub struct OwnedRegion {
 
 impl Model for OwnedRegion {
     ghost use Rattle.heap_region.specs.Inside.{IsOwned, lines_told, taken_of};
+    ghost use Rattle.std.specs.Arc.{arc_value};
     ghost use Rattle.std.specs.Prelude.{is_some};
     ghost use Rattle.heap_region.specs.Owned.{OwnedView};
 
@@ -46,33 +46,29 @@ impl Model for OwnedRegion {
       queues = r.threads.queues;
       running = r.threads.running;
       awaiting = r.threads.awaiting;
-      totals = r.totals;
+      last = r.threads.last;
+      since = r.threads.since;
       printed = r.printed;
       told = lines_told (is_some r.held) r.threads.replies r.shown (taken_of r.pass r.taken);
       closed = r.closed;
     } };
 
-    ghost invariant = { λ r. IsOwned r.region r.pass r.threads r.held r.totals r.taken r.printed
+    ghost invariant = { λ r. IsOwned (arc_value r.region) r.pass r.threads r.held r.taken r.printed
         r.shown r.closed };
 }
 
 impl OwnedRegion {
-    /// A region whose slots are all null, and threads without orders. Want of memory is free.
+    /// A region whose slots are all null, and threads without orders, for whom four zeros are published.
+    /// Want of memory is free.
     pub fn new(alloc: Global) -> Result<OwnedRegion, NoMemory>
         ensures { IfOk result (λ r. r ≡ nothing_owned) }
     {
         let (region, pass) = Region::new(alloc, SLOTS)?;
         let threads = ThreadQueues::new(alloc)?;
         Ok(OwnedRegion {
-            region,
+            region: Arc::new(alloc, region)?,
             pass,
             threads,
-            totals: Totals {
-                ordinal: 0,
-                objects: 0,
-                used: 0,
-                finalised: 0,
-            },
             taken: 0,
             printed: 0,
             shown: 0,

@@ -1,20 +1,21 @@
 // The threads of a script: orders are queued, the threads go, and are joined.
 
-ghost use Rattle.std.specs.Prelude.{◌≡◌, ◌+◌, ◌≤◌, ℕ, [], true, false, Contains, length};
+ghost use Rattle.std.specs.Prelude.{◌≡◌, ◌+◌, ◌<◌, ◌≤◌, ℕ, [], true, false, Contains, length};
 ghost use Rattle.std.specs.Prelude.{OnOk, OnErr};
 ghost use Rattle.gc_graph.specs.Lawful.{IsAllowedOrder};
 ghost use Rattle.thread_queues.specs.Queues.{threads_in, with_order};
 ghost use Rattle.heap_objects.specs.Nodes.{AreOfValid};
 ghost use Rattle.heap_objects.specs.Objects.{setup_of_objects};
-ghost use Rattle.heap_region.specs.Calls.{HaveGoneOut, HasJoined};
+ghost use Rattle.heap_region.specs.Calls.{HasJoined, HasPublished, HaveGoneOut};
 ghost use Rattle.heap_region.specs.Handled.{IsHandled, LooksAgain};
 ghost use Rattle.heap_region.specs.Owned.{HasBegun};
 
 use crate::owned::OwnedRegion;
 use crate::taking::look_again;
 use gc_graph::{NoMemory, Order};
-use heap_objects::Objects;
-use std::sync::Wait;
+use heap_objects::{Gate, Objects};
+use std::sync::{Arc, Wait};
+use std::thread::Threads;
 use thread_queues::Totals;
 
 impl OwnedRegion {
@@ -33,21 +34,33 @@ impl OwnedRegion {
         Ok(())
     }
 
-    /// The threads whose queues aren't empty go. Answers how many they are.
-    pub fn go<R: Wait>(&mut self, rt: &R, totals: Totals) -> u32
+    /// Publishes the totals of the heap, which threads may read from now on.
+    pub fn publish<R: Wait>(&mut self, rt: &R, totals: Totals)
+        requires later { self.old.last.ordinal < totals.ordinal }
+        ensures { HasPublished self.old totals self.new }
+    {
+        self.threads.publish(rt, totals);
+    }
+
+    /// A thread is started for each queue that isn't empty. Where one is refused, its orders are done
+    /// here. Answers how many they are.
+    pub fn go<R: Threads + Wait + Copy + Send + 'static, G: Gate + Send + Sync + 'static>(
+        &mut self,
+        rt: &R,
+        gate: &Arc<G>,
+    ) -> u32
         requires opened { self.old.closed ≡ false }
         requires quiet { self.old.told ≡ [] }
         requires joined { self.old.awaiting ≡ false }
         ensures count { result ≡ length (threads_in self.old.queues) }
-        ensures went { HaveGoneOut self.old totals self.new }
+        ensures gone { HaveGoneOut self.old self.new }
     {
-        self.totals = totals;
-        self.threads.go(rt, &self.region, &mut self.pass, totals)
+        self.threads.go(rt, &self.region, &mut self.pass, gate)
     }
 
-    /// The threads that went are joined, and what they have done is taken, and told. Answers how
-    /// many they were.
-    pub fn join<R: Wait>(&mut self, rt: &R, objects: &mut Objects) -> u32
+    /// Waits for the threads that went, and what they have done is taken, and told. Answers how many they
+    /// were.
+    pub fn join<R: Threads + Wait>(&mut self, rt: &R, objects: &mut Objects) -> u32
         requires opened { self.old.closed ≡ false }
         requires awaited { self.old.awaiting ≡ true }
         requires valid { AreOfValid (setup_of_objects objects.old) objects.old.nodes }
@@ -55,7 +68,7 @@ impl OwnedRegion {
         ensures joined { HasJoined self.old self.new result }
         ensures looked { LooksAgain objects.old self.old self.new objects.new }
     {
-        let count = self.threads.join(&self.region, &mut self.pass);
+        let count = self.threads.join(rt, &self.region, &mut self.pass);
         self.pass.is_legal();
         let held = self.region.look(rt, &mut self.pass);
         let taken = held.len();
@@ -73,15 +86,15 @@ impl OwnedRegion {
         count
     }
 
-    /// Joins the threads that run, if some do, and takes nothing of what they have done. Of their
+    /// Waits for the threads that run, if some do, and takes nothing of what they have done. Of their
     /// entries those that were taken are the first ones of their orders.
-    pub fn close(&mut self)
+    pub fn close<R: Threads + Wait>(&mut self, rt: &R)
         ensures begun { (j : ℕ) → Contains self.old.running j → HasBegun self.old j }
         ensures closed { self.new ≡ record self.old { out = []; closed = true } }
     {
         // While a join holds the history no thread runs.
         if self.held.is_none() {
-            self.threads.dismiss(&self.region, &mut self.pass);
+            self.threads.dismiss(rt, &self.region, &mut self.pass);
         }
         self.closed = true;
     }

@@ -1,1 +1,2 @@
 pub mod FreePasses
+pub mod ScriptRounds

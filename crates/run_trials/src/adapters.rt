@@ -82,7 +82,12 @@ const STREAMS: &str = "\
 
 /// Whether the script's run ends as the row says. `bad_read` takes the place of a reader's call that
 /// the row names.
-fn is_right<R: Threads + Wait>(rt: &R, alloc: Global, row: &str, bad_read: u32) -> bool {
+fn is_right<R: Threads + Wait + Copy + Send + 'static>(
+    rt: &R,
+    alloc: Global,
+    row: &str,
+    bad_read: u32,
+) -> bool {
     let mut reader = Trickle {
         bytes: PLAIN.script,
         at: 0,
@@ -101,7 +106,7 @@ fn is_right<R: Threads + Wait>(rt: &R, alloc: Global, row: &str, bad_read: u32) 
         && is_start(&writer.taken, PLAIN.report, number_at(row, 6) as usize)
 }
 
-fn ends_so<R: Threads + Wait>(
+fn ends_so<R: Threads + Wait + Copy + Send + 'static>(
     rt: &R,
     alloc: Global,
     reader: &mut Trickle<'_>,
@@ -116,7 +121,7 @@ fn ends_so<R: Threads + Wait>(
 }
 
 /// The number of the first row of which something else comes, counted from 1.
-fn first_wrong<R: Threads + Wait>(rt: &R, alloc: Global) -> Option<u32> {
+fn first_wrong<R: Threads + Wait + Copy + Send + 'static>(rt: &R, alloc: Global) -> Option<u32> {
     for (row, number) in STREAMS.lines().zip(1u32..) {
         if !is_right(rt, alloc, row, number_at(row, 1)) {
             return Some(number);
@@ -126,7 +131,10 @@ fn first_wrong<R: Threads + Wait>(rt: &R, alloc: Global) -> Option<u32> {
 }
 
 /// The first call of a reader of single bytes whose failure is no read fault.
-fn first_wrong_read<R: Threads + Wait>(rt: &R, alloc: Global) -> Option<u32> {
+fn first_wrong_read<R: Threads + Wait + Copy + Send + 'static>(
+    rt: &R,
+    alloc: Global,
+) -> Option<u32> {
     // After 9, 16, 24, 31, 46 and 56 bytes what was read is a script of its own.
     for bad_read in 1..=57 {
         if !is_right(rt, alloc, "1 0 1000 0 0 3 0", bad_read) {

@@ -135,7 +135,12 @@ impl HeldInTurn {
 }
 
 /// Whether the turns were kept, and the run wrote one of the reports.
-fn is_held_in_turn<R: Threads + Wait>(rt: &R, alloc: Global, script: &[u8], reports: &str) -> bool {
+fn is_held_in_turn<R: Threads + Wait + Copy + Send + 'static>(
+    rt: &R,
+    alloc: Global,
+    script: &[u8],
+    reports: &str,
+) -> bool {
     let gate = HeldInTurn {
         begun: AtomicU64::new(0),
         answered: AtomicU64::new(0),
@@ -163,7 +168,7 @@ fn script_may_end_before_the_marker_has_claimed(rt: HostRuntime) {
 }
 
 /// Whether the weak read in a run in which nobody is held has one of its reports.
-fn is_right<R: Threads + Wait>(rt: &R, alloc: Global, words: &str) -> bool {
+fn is_right<R: Threads + Wait + Copy + Send + 'static>(rt: &R, alloc: Global, words: &str) -> bool {
     match Arc::new(alloc, FreeGate) {
         Ok(gate) => writes_one_of(rt, alloc, words, READ_WEAKLY, &gate, READ_REPORTS),
         Err(_) => false,
@@ -171,7 +176,10 @@ fn is_right<R: Threads + Wait>(rt: &R, alloc: Global, words: &str) -> bool {
 }
 
 /// The first number of markers, of 1 to 8, beside which another report is written.
-fn first_wrong_number<R: Threads + Wait>(rt: &R, alloc: Global) -> Option<u32> {
+fn first_wrong_number<R: Threads + Wait + Copy + Send + 'static>(
+    rt: &R,
+    alloc: Global,
+) -> Option<u32> {
     for (words, number) in WORDS.lines().zip(1u32..) {
         if !is_right(rt, alloc, words) {
             return Some(number);
@@ -186,7 +194,11 @@ fn weak_read_beside_one_to_eight_markers_is_lawful(rt: HostRuntime) {
 }
 
 /// Whether the generated script has 19 pauses, and each tells that nobody walked.
-fn has_no_walk<R: Threads + Wait>(rt: &R, alloc: Global, gate: &Arc<FreeGate>) -> bool {
+fn has_no_walk<R: Threads + Wait + Copy + Send + 'static>(
+    rt: &R,
+    alloc: Global,
+    gate: &Arc<FreeGate>,
+) -> bool {
     match run_of(alloc, "--generate 1 --count 2000 --markers 4", b"", STEADY) {
         Ok(mut run) => {
             let report = run.report_behind(rt, alloc, gate);
@@ -196,7 +208,7 @@ fn has_no_walk<R: Threads + Wait>(rt: &R, alloc: Global, gate: &Arc<FreeGate>) -
     }
 }
 
-fn pauses_walk_nowhere<R: Threads + Wait>(rt: &R, alloc: Global) -> bool {
+fn pauses_walk_nowhere<R: Threads + Wait + Copy + Send + 'static>(rt: &R, alloc: Global) -> bool {
     match Arc::new(alloc, FreeGate) {
         Ok(gate) => has_no_walk(rt, alloc, &gate),
         Err(_) => false,

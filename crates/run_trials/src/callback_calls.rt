@@ -33,7 +33,7 @@ fn counting_table(alloc: Global, calls: &Arc<AtomicU64>) -> Result<CallbackTable
     Ok(CallbackTable::new(list))
 }
 
-fn is_done<R: Threads + Wait>(
+fn is_done<R: Threads + Wait + Copy + Send + 'static>(
     rt: &R,
     alloc: Global,
     callbacks: &CallbackTable,
@@ -45,7 +45,11 @@ fn is_done<R: Threads + Wait>(
     }
 }
 
-fn is_done_with<R: Threads + Wait>(rt: &R, alloc: Global, callbacks: &CallbackTable) -> bool {
+fn is_done_with<R: Threads + Wait + Copy + Send + 'static>(
+    rt: &R,
+    alloc: Global,
+    callbacks: &CallbackTable,
+) -> bool {
     match Arc::new(alloc, FreeGate) {
         Ok(gate) => is_done(rt, alloc, callbacks, &gate),
         Err(_) => false,
@@ -53,7 +57,11 @@ fn is_done_with<R: Threads + Wait>(rt: &R, alloc: Global, callbacks: &CallbackTa
 }
 
 /// Whether the run is done, with one callback whose calls are counted.
-fn is_counted<R: Threads + Wait>(rt: &R, alloc: Global, calls: &Arc<AtomicU64>) -> bool {
+fn is_counted<R: Threads + Wait + Copy + Send + 'static>(
+    rt: &R,
+    alloc: Global,
+    calls: &Arc<AtomicU64>,
+) -> bool {
     match counting_table(alloc, calls) {
         Ok(callbacks) => is_done_with(rt, alloc, &callbacks),
         Err(_) => false,
@@ -61,7 +69,7 @@ fn is_counted<R: Threads + Wait>(rt: &R, alloc: Global, calls: &Arc<AtomicU64>) 
 }
 
 /// How many calls a run that is done makes; without one, none.
-fn calls_made<R: Threads + Wait>(rt: &R, alloc: Global) -> Option<u64> {
+fn calls_made<R: Threads + Wait + Copy + Send + 'static>(rt: &R, alloc: Global) -> Option<u64> {
     match Arc::new(alloc, AtomicU64::new(0)) {
         Ok(calls) => is_counted(rt, alloc, &calls).then_some(calls.load(Ordering::SeqCst)),
         Err(_) => None,

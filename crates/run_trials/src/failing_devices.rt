@@ -34,7 +34,7 @@ const SUMMED: Case<'_> = Case {
 
 /// The first of so many calls of the source after whose failure something else comes than a read
 /// fault with nothing written.
-fn first_wrong_read<R: Threads + Wait>(
+fn first_wrong_read<R: Threads + Wait + Copy + Send + 'static>(
     rt: &R,
     alloc: Global,
     case: Case<'_>,
@@ -67,7 +67,7 @@ fn failed_read_is_answered_and_nothing_is_written(rt: HostRuntime) {
 
 /// The first of so many calls of the sink after whose failure something else comes than a write
 /// fault with all that the calls before wrote.
-fn first_wrong_write<R: Threads + Wait>(
+fn first_wrong_write<R: Threads + Wait + Copy + Send + 'static>(
     rt: &R,
     alloc: Global,
     case: Case<'_>,
@@ -92,7 +92,7 @@ fn first_wrong_write<R: Threads + Wait>(
 }
 
 /// Whether there is no second write of a report that goes out whole.
-fn goes_out_whole<R: Threads + Wait>(rt: &R, alloc: Global) -> bool {
+fn goes_out_whole<R: Threads + Wait + Copy + Send + 'static>(rt: &R, alloc: Global) -> bool {
     let devices = Devices {
         bad_write: 2,
         ..STEADY
@@ -117,7 +117,7 @@ fn failed_write_leaves_what_was_written_before(rt: HostRuntime) {
 }
 
 /// Whether the case ends so on a sink with so much room, which takes a byte a call, and fills it.
-fn fills<R: Threads + Wait>(
+fn fills<R: Threads + Wait + Copy + Send + 'static>(
     rt: &R,
     alloc: Global,
     case: Case<'_>,
@@ -134,7 +134,11 @@ fn fills<R: Threads + Wait>(
 
 /// The first room below that of the whole report of which something else comes than a write fault
 /// after as many bytes.
-fn first_wrong_room<R: Threads + Wait>(rt: &R, alloc: Global, case: Case<'_>) -> Option<usize> {
+fn first_wrong_room<R: Threads + Wait + Copy + Send + 'static>(
+    rt: &R,
+    alloc: Global,
+    case: Case<'_>,
+) -> Option<usize> {
     for room in 0..case.report.len() {
         if !fills(rt, alloc, case, Status::WriteFault, room) {
             return Some(room);

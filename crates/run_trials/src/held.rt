@@ -111,14 +111,19 @@ fn is_lawful(held: &Held, report: &str) -> bool {
 }
 
 /// Whether the run behind the gate is done, and its report lawful.
-fn is_right<R: Threads + Wait>(rt: &R, alloc: Global, held: &Held, gate: HeldOnce) -> bool {
+fn is_right<R: Threads + Wait + Copy + Send + 'static>(
+    rt: &R,
+    alloc: Global,
+    held: &Held,
+    gate: HeldOnce,
+) -> bool {
     match Arc::new(alloc, gate) {
         Ok(gate) => is_lawful_behind(rt, alloc, held, &gate),
         Err(_) => false,
     }
 }
 
-fn is_lawful_behind<R: Threads + Wait>(
+fn is_lawful_behind<R: Threads + Wait + Copy + Send + 'static>(
     rt: &R,
     alloc: Global,
     held: &Held,

@@ -88,7 +88,7 @@ fn long_script(alloc: Global) -> Result<Vec<u8>, AllocError> {
 }
 
 /// How the run of the script ends behind the gate, where the first write fails.
-fn status_of<R: Threads + Wait>(
+fn status_of<R: Threads + Wait + Copy + Send + 'static>(
     rt: &R,
     alloc: Global,
     script: &[u8],
@@ -108,7 +108,7 @@ fn status_of<R: Threads + Wait>(
 }
 
 /// Whether the run ends with a write fault, the marker has passed, and it doesn't pass any more.
-fn is_joined_behind<R: Threads + Wait>(
+fn is_joined_behind<R: Threads + Wait + Copy + Send + 'static>(
     rt: &R,
     alloc: Global,
     script: &[u8],
@@ -122,7 +122,7 @@ fn is_joined_behind<R: Threads + Wait>(
         && gate.late.load(Ordering::SeqCst) == 0
 }
 
-fn is_joined<R: Threads + Wait>(rt: &R, alloc: Global) -> bool {
+fn is_joined<R: Threads + Wait + Copy + Send + 'static>(rt: &R, alloc: Global) -> bool {
     let Ok(script) = long_script(alloc) else {
         return false;
     };

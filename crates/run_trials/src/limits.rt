@@ -23,13 +23,18 @@ fn add_padded(script: &mut Vec<u8>, byte: u8, more: u32) -> Result<(), AllocErro
     Ok(())
 }
 
-fn is_right<R: Threads + Wait>(rt: &R, alloc: Global, row: &str) -> bool {
+fn is_right<R: Threads + Wait + Copy + Send + 'static>(rt: &R, alloc: Global, row: &str) -> bool {
     let byte = if number_at(row, 0) == 10 { b'\n' } else { b' ' };
     let mut script = Vec::new(alloc);
     add_padded(&mut script, byte, number_at(row, 1)).is_ok() && ends_so(rt, alloc, &script, row)
 }
 
-fn ends_so<R: Threads + Wait>(rt: &R, alloc: Global, script: &[u8], row: &str) -> bool {
+fn ends_so<R: Threads + Wait + Copy + Send + 'static>(
+    rt: &R,
+    alloc: Global,
+    script: &[u8],
+    row: &str,
+) -> bool {
     let case = Case {
         words: "",
         script,
@@ -40,7 +45,11 @@ fn ends_so<R: Threads + Wait>(rt: &R, alloc: Global, script: &[u8], row: &str) -
 }
 
 /// The number of the first row of which something else comes, counted from 1.
-fn first_wrong<R: Threads + Wait>(rt: &R, alloc: Global, rows: &str) -> Option<u32> {
+fn first_wrong<R: Threads + Wait + Copy + Send + 'static>(
+    rt: &R,
+    alloc: Global,
+    rows: &str,
+) -> Option<u32> {
     for (row, number) in rows.lines().zip(1u32..) {
         if !is_right(rt, alloc, row) {
             return Some(number);

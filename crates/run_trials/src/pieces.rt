@@ -119,7 +119,12 @@ fn add_both(script: &mut Vec<u8>, report: &mut Vec<u8>, long: &Long) -> Result<(
 
 /// The number of the first row of which something else comes, counted from 1; 0 where memory is
 /// wanting.
-fn first_wrong<R: Threads + Wait>(rt: &R, alloc: Global, long: &Long, rows: &str) -> Option<u32> {
+fn first_wrong<R: Threads + Wait + Copy + Send + 'static>(
+    rt: &R,
+    alloc: Global,
+    long: &Long,
+    rows: &str,
+) -> Option<u32> {
     let mut script = Vec::new(alloc);
     let mut report = Vec::new(alloc);
     if add_both(&mut script, &mut report, long).is_err() {
@@ -133,7 +138,7 @@ fn first_wrong<R: Threads + Wait>(rt: &R, alloc: Global, long: &Long, rows: &str
     first_wrong_row(rt, alloc, case, rows)
 }
 
-fn first_wrong_row<R: Threads + Wait>(
+fn first_wrong_row<R: Threads + Wait + Copy + Send + 'static>(
     rt: &R,
     alloc: Global,
     case: Case<'_>,
@@ -147,7 +152,12 @@ fn first_wrong_row<R: Threads + Wait>(
     None
 }
 
-fn is_right<R: Threads + Wait>(rt: &R, alloc: Global, case: Case<'_>, row: &str) -> bool {
+fn is_right<R: Threads + Wait + Copy + Send + 'static>(
+    rt: &R,
+    alloc: Global,
+    case: Case<'_>,
+    row: &str,
+) -> bool {
     let devices = Devices {
         most: (number_at(row, 0) as usize).max(1),
         bad_read: 0,

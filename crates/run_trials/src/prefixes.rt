@@ -28,7 +28,12 @@ sweep all|222244330
 ";
 
 /// Whether the run of the script ends so, and has written something just where it is done.
-fn comes_to<R: Threads + Wait>(rt: &R, alloc: Global, script: &[u8], status: Status) -> bool {
+fn comes_to<R: Threads + Wait + Copy + Send + 'static>(
+    rt: &R,
+    alloc: Global,
+    script: &[u8],
+    status: Status,
+) -> bool {
     match run_of(alloc, "--pages 4 --page-words 256", script, STEADY) {
         Ok(mut run) => run.ends_so(rt, alloc, status)
             && run.has_written() == (status == Status::Done),
@@ -49,7 +54,7 @@ fn status_of(line: u32, reason: u8) -> Status {
 
 /// Whether the script comes to what the row says after each byte that it gets, and is done after the end
 /// of the line.
-fn is_right<R: Threads + Wait>(
+fn is_right<R: Threads + Wait + Copy + Send + 'static>(
     rt: &R,
     alloc: Global,
     script: &mut Vec<u8>,
@@ -68,7 +73,7 @@ fn is_right<R: Threads + Wait>(
 }
 
 /// The first line of which something else comes.
-fn first_wrong<R: Threads + Wait>(rt: &R, alloc: Global) -> Option<u32> {
+fn first_wrong<R: Threads + Wait + Copy + Send + 'static>(rt: &R, alloc: Global) -> Option<u32> {
     let mut script = Vec::new(alloc);
     for (row, line) in LINES.lines().zip(1u32..) {
         if !is_right(rt, alloc, &mut script, line, row) {

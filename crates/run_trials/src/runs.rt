@@ -94,7 +94,7 @@ fn sink_of(alloc: Global, devices: Devices) -> Result<ListSink, NoMemory>
 
 /// Whether the run of the case ends so and has written so many bytes of its report, and a heap is
 /// kept exactly where it is done.
-pub(crate) fn comes_out<R: Threads + Wait>(
+pub(crate) fn comes_out<R: Threads + Wait + Copy + Send + 'static>(
     rt: &R,
     alloc: Global,
     case: Case<'_>,
@@ -118,7 +118,7 @@ pub(crate) fn is_start(bytes: &[u8], report: &[u8], count: usize) -> bool {
 
 impl Run {
     /// Whether the run ends so, and keeps its heap exactly where it is done.
-    pub(crate) fn ends_so<R: Threads + Wait>(
+    pub(crate) fn ends_so<R: Threads + Wait + Copy + Send + 'static>(
         &mut self,
         rt: &R,
         alloc: Global,
@@ -135,13 +135,10 @@ impl Run {
     }
 
     /// How the run behind the gate ends.
-    pub(crate) fn status_behind<R: Threads + Wait, G: Gate + Send + Sync + 'static>(
-        &mut self,
-        rt: &R,
-        alloc: Global,
-        callbacks: &CallbackTable,
-        gate: &Arc<G>,
-    ) -> Status {
+    pub(crate) fn status_behind<
+        R: Threads + Wait + Copy + Send + 'static,
+        G: Gate + Send + Sync + 'static,
+    >(&mut self, rt: &R, alloc: Global, callbacks: &CallbackTable, gate: &Arc<G>) -> Status {
         let (source, sink) = (&mut self.source, &mut self.sink);
         run(
             rt,
@@ -157,12 +154,10 @@ impl Run {
 
     /// What the run behind the gate, which has no callbacks, has written, where it is done; of
     /// another run nothing.
-    pub(crate) fn report_behind<R: Threads + Wait, G: Gate + Send + Sync + 'static>(
-        &mut self,
-        rt: &R,
-        alloc: Global,
-        gate: &Arc<G>,
-    ) -> &str {
+    pub(crate) fn report_behind<
+        R: Threads + Wait + Copy + Send + 'static,
+        G: Gate + Send + Sync + 'static,
+    >(&mut self, rt: &R, alloc: Global, gate: &Arc<G>) -> &str {
         match self.status_behind(rt, alloc, &CallbackTable::new(Vec::new(alloc)), gate) {
             Status::Done => str::from_utf8(self.sink.bytes()).unwrap_or(""),
             _ => "",
@@ -171,14 +166,10 @@ impl Run {
 }
 
 /// Whether the run behind the gate is done, and has written one of the reports that bars part.
-pub(crate) fn writes_one_of<R: Threads + Wait, G: Gate + Send + Sync + 'static>(
-    rt: &R,
-    alloc: Global,
-    words: &str,
-    script: &[u8],
-    gate: &Arc<G>,
-    reports: &str,
-) -> bool {
+pub(crate) fn writes_one_of<
+    R: Threads + Wait + Copy + Send + 'static,
+    G: Gate + Send + Sync + 'static,
+>(rt: &R, alloc: Global, words: &str, script: &[u8], gate: &Arc<G>, reports: &str) -> bool {
     match run_of(alloc, words, script, STEADY) {
         Ok(mut run) => is_one_of(run.report_behind(rt, alloc, gate), reports),
         Err(_) => false,

@@ -127,7 +127,7 @@ gc now precise\nthreads join\ngc now precise\nsweep all\n",
 };
 
 /// Whether the run of this seed is done, and its report is lawful.
-fn is_right<R: Threads + Wait>(
+fn is_right<R: Threads + Wait + Copy + Send + 'static>(
     rt: &R,
     alloc: Global,
     words: &str,
@@ -140,7 +140,7 @@ fn is_right<R: Threads + Wait>(
     }
 }
 
-fn is_lawful_behind<R: Threads + Wait>(
+fn is_lawful_behind<R: Threads + Wait + Copy + Send + 'static>(
     rt: &R,
     alloc: Global,
     words: &str,
@@ -159,7 +159,11 @@ fn words_at(seed: u32) -> &'static str {
 }
 
 /// The first seed whose run isn't as it has to be.
-fn first_wrong<R: Threads + Wait>(rt: &R, alloc: Global, trial: &Trial) -> Option<u32> {
+fn first_wrong<R: Threads + Wait + Copy + Send + 'static>(
+    rt: &R,
+    alloc: Global,
+    trial: &Trial,
+) -> Option<u32> {
     for seed in 0..RUNS {
         if !is_right(rt, alloc, words_at(seed), seed, trial) {
             return Some(seed);
@@ -195,7 +199,10 @@ fn weak_handles_read_beside_markers_are_lawful(rt: HostRuntime) {
 
 /// The first seed of which two runs at once, on threads of their own and with two markers each, aren't
 /// both as they have to be.
-fn first_wrong_of_two<R: Threads + Wait + Sync>(rt: &R, alloc: Global) -> Option<u32> {
+fn first_wrong_of_two<R: Threads + Wait + Copy + Send + Sync + 'static>(
+    rt: &R,
+    alloc: Global,
+) -> Option<u32> {
     let words = words_at(1);
     for seed in 0..RUNS {
         let (one, other) = thread::join(
@@ -216,7 +223,12 @@ fn two_heaps_have_markers_at_once(rt: HostRuntime) {
 }
 
 /// Whether the run of this seed writes what the script has to.
-fn is_settled<R: Threads + Wait>(rt: &R, alloc: Global, seed: u32, settled: &Settled) -> bool {
+fn is_settled<R: Threads + Wait + Copy + Send + 'static>(
+    rt: &R,
+    alloc: Global,
+    seed: u32,
+    settled: &Settled,
+) -> bool {
     match Arc::new(alloc, Drawn::new(u64::from(seed))) {
         Ok(gate) => writes_one_of(
             rt,
@@ -231,7 +243,11 @@ fn is_settled<R: Threads + Wait>(rt: &R, alloc: Global, seed: u32, settled: &Set
 }
 
 /// The first seed whose run writes something else.
-fn first_unsettled<R: Threads + Wait>(rt: &R, alloc: Global, settled: &Settled) -> Option<u32> {
+fn first_unsettled<R: Threads + Wait + Copy + Send + 'static>(
+    rt: &R,
+    alloc: Global,
+    settled: &Settled,
+) -> Option<u32> {
     for seed in 0..RUNS {
         if !is_settled(rt, alloc, seed, settled) {
             return Some(seed);

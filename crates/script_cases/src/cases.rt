@@ -56,7 +56,7 @@ struct Trial {
 }
 
 /// How the case of this name comes out, whose heap starts no thread unless it has markers.
-pub(crate) fn tried<R: Threads + Wait>(
+pub(crate) fn tried<R: Threads + Wait + Copy + Send + 'static>(
     rt: &HostRuntime,
     threads: &R,
     name: &str,
@@ -118,7 +118,7 @@ fn wanted_of(rt: &HostRuntime, name: &str) -> io::Result<Wanted> {
     }
 }
 
-fn trial_of<R: Threads + Wait>(
+fn trial_of<R: Threads + Wait + Copy + Send + 'static>(
     threads: &R,
     alloc: Global,
     words: &[String],
@@ -131,7 +131,7 @@ fn trial_of<R: Threads + Wait>(
 }
 
 /// Runs a script between devices in memory that don't fail.
-fn run_of<R: Threads + Wait>(
+fn run_of<R: Threads + Wait + Copy + Send + 'static>(
     threads: &R,
     alloc: Global,
     words: &[String],

@@ -9,7 +9,7 @@ ghost use Rattle.script_run.specs.Callbacks.{program_kinds};
 use super::one_run::run;
 use super::status::Status;
 use callback_table::{Action, ActionKind, Callback, CallbackTable};
-use heap_engine::FreeGate;
+use heap_engine::{FreeGate, Gate};
 use heap_script::{NoMemory, Sink, Source};
 use std::alloc::Global;
 use std::sync::{Arc, Wait};
@@ -24,12 +24,30 @@ pub struct Ran {
 
 /// Runs the script of the source with the five callbacks of the program, and holds nobody at the gate.
 /// Want of memory is free.
-pub fn run_program<R: Threads + Wait, S: Source, K: Sink>(
+pub fn run_program<R: Threads + Wait + Copy + Send + 'static, S: Source, K: Sink>(
     rt: &R,
     alloc: Global,
     words: &[String],
     source: &mut S,
     sink: &mut K,
+) -> Result<Ran, NoMemory> {
+    let gate = Arc::new(alloc, FreeGate)?;
+    run_program_behind(rt, alloc, words, source, sink, &gate)
+}
+
+/// The same behind this gate.
+pub fn run_program_behind<
+    R: Threads + Wait + Copy + Send + 'static,
+    S: Source,
+    K: Sink,
+    G: Gate + Send + Sync + 'static,
+>(
+    rt: &R,
+    alloc: Global,
+    words: &[String],
+    source: &mut S,
+    sink: &mut K,
+    gate: &Arc<G>,
 ) -> Result<Ran, NoMemory> {
     let mut list = Vec::with_capacity(alloc, 5)?;
     list.push(Callback::new(ActionKind::Nothing, Box::new(alloc, nothing)?))?;
@@ -54,19 +72,23 @@ pub fn run_program<R: Threads + Wait, S: Source, K: Sink>(
     };
     list.push(Callback::new(kind, Box::new(alloc, clear_if_second)?))?;
     let callbacks = CallbackTable::new(list);
-    let gate = Arc::new(alloc, FreeGate)?;
-    Ok(run_with(rt, alloc, words, source, sink, &callbacks, &gate))
+    Ok(run_with(rt, alloc, words, source, sink, &callbacks, gate))
 }
 
 /// Runs the script of the source with callbacks that are those of the program.
-fn run_with<R: Threads + Wait, S: Source, K: Sink>(
+fn run_with<
+    R: Threads + Wait + Copy + Send + 'static,
+    S: Source,
+    K: Sink,
+    G: Gate + Send + Sync + 'static,
+>(
     rt: &R,
     alloc: Global,
     words: &[String],
     source: &mut S,
     sink: &mut K,
     callbacks: &CallbackTable,
-    gate: &Arc<FreeGate>,
+    gate: &Arc<G>,
 ) -> Ran
     requires { callback_kinds callbacks.now ≡ program_kinds }
 {

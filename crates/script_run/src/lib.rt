@@ -36,7 +36,7 @@ mod report;
 mod status;
 
 pub use adapters::{StdinSource, StdoutSink};
-pub use callbacks::{Ran, run_program};
+pub use callbacks::{Ran, run_program, run_program_behind};
 pub use heap_engine::{FreeGate, Gate};
 pub use one_run::run;
 pub use status::{Ending, Status, end};

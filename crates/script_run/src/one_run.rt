@@ -36,7 +36,13 @@ const NO_LINE: u32 = 0;
 
 /// Reads a script or generates one, runs it on one heap, and writes its report or its summary. The
 /// heap's markers run beside it, and pass the gate as it does. When memory is wanting is free.
-pub fn run<'a, R: Threads + Wait, S: Source, K: Sink, G: Gate + Send + Sync + 'static>(
+pub fn run<
+    'a,
+    R: Threads + Wait + Copy + Send + 'static,
+    S: Source,
+    K: Sink,
+    G: Gate + Send + Sync + 'static,
+>(
     rt: &R,
     alloc: Global,
     words: &[String],
@@ -102,7 +108,12 @@ pub fn run<'a, R: Threads + Wait, S: Source, K: Sink, G: Gate + Send + Sync + 's
 }
 
 /// Runs the script that the bytes are, with these options.
-pub(crate) fn run_bytes<'a, R: Threads + Wait, K: Sink, G: Gate + Send + Sync + 'static>(
+pub(crate) fn run_bytes<
+    'a,
+    R: Threads + Wait + Copy + Send + 'static,
+    K: Sink,
+    G: Gate + Send + Sync + 'static,
+>(
     rt: &R,
     alloc: Global,
     options: Options,
@@ -128,7 +139,12 @@ pub(crate) fn run_bytes<'a, R: Threads + Wait, K: Sink, G: Gate + Send + Sync + 
 }
 
 /// Runs the script that is generated from a seed, with these options.
-fn run_generated<'a, R: Threads + Wait, K: Sink, G: Gate + Send + Sync + 'static>(
+fn run_generated<
+    'a,
+    R: Threads + Wait + Copy + Send + 'static,
+    K: Sink,
+    G: Gate + Send + Sync + 'static,
+>(
     rt: &R,
     alloc: Global,
     options: Options,

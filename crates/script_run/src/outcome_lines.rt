@@ -20,7 +20,11 @@ use std::sync::Wait;
 use std::thread::Threads;
 
 /// Does the commands in order, and prints each outcome.
-pub(crate) fn print_all<R: Threads + Wait, K: Sink, G: Gate + Send + Sync + 'static>(
+pub(crate) fn print_all<
+    R: Threads + Wait + Copy + Send + 'static,
+    K: Sink,
+    G: Gate + Send + Sync + 'static,
+>(
     rt: &R,
     heap: &mut Heap<'_, G>,
     commands: &[Command],
@@ -56,7 +60,11 @@ pub(crate) fn print_all<R: Threads + Wait, K: Sink, G: Gate + Send + Sync + 'sta
 }
 
 /// Does a command, and prints the lines of its outcome.
-fn print_outcome<R: Threads + Wait, K: Sink, G: Gate + Send + Sync + 'static>(
+fn print_outcome<
+    R: Threads + Wait + Copy + Send + 'static,
+    K: Sink,
+    G: Gate + Send + Sync + 'static,
+>(
     rt: &R,
     heap: &mut Heap<'_, G>,
     command: &Command,

@@ -26,7 +26,12 @@ use std::thread::Threads;
 use type_table::{TypeDecl, TypeFault, TypeTable};
 
 /// Runs a script on a heap of its own.
-pub(crate) fn run_script<'a, R: Threads + Wait, K: Sink, G: Gate + Send + Sync + 'static>(
+pub(crate) fn run_script<
+    'a,
+    R: Threads + Wait + Copy + Send + 'static,
+    K: Sink,
+    G: Gate + Send + Sync + 'static,
+>(
     rt: &R,
     alloc: Global,
     options: Options,
@@ -79,7 +84,12 @@ pub(crate) fn run_script<'a, R: Threads + Wait, K: Sink, G: Gate + Send + Sync +
 
 /// Runs commands on a new heap, which has so many types, and keeps it once all is printed. After a
 /// failed write it is let go: its markers and threads were joined by then.
-fn run_commands<'a, R: Threads + Wait, K: Sink, G: Gate + Send + Sync + 'static>(
+fn run_commands<
+    'a,
+    R: Threads + Wait + Copy + Send + 'static,
+    K: Sink,
+    G: Gate + Send + Sync + 'static,
+>(
     rt: &R,
     mut heap: Heap<'a, G>,
     summary: bool,

@@ -23,7 +23,11 @@ use std::thread::Threads;
 /// Does the commands of a script on a new heap, which has so many types, and prints the report or the
 /// summary. The heap is closed then, also after a failed write, so that no marker and no thread goes
 /// on.
-pub(crate) fn print_run<R: Threads + Wait, K: Sink, G: Gate + Send + Sync + 'static>(
+pub(crate) fn print_run<
+    R: Threads + Wait + Copy + Send + 'static,
+    K: Sink,
+    G: Gate + Send + Sync + 'static,
+>(
     rt: &R,
     heap: &mut Heap<'_, G>,
     summary: bool,
@@ -54,7 +58,11 @@ pub(crate) fn print_run<R: Threads + Wait, K: Sink, G: Gate + Send + Sync + 'sta
 
 /// Does the commands and prints the report: the types, each outcome as it comes, and the end line. The
 /// heap is closed before the end line, and where a write fails before it.
-fn print_report<R: Threads + Wait, K: Sink, G: Gate + Send + Sync + 'static>(
+fn print_report<
+    R: Threads + Wait + Copy + Send + 'static,
+    K: Sink,
+    G: Gate + Send + Sync + 'static,
+>(
     rt: &R,
     heap: &mut Heap<'_, G>,
     types: u32,
@@ -95,7 +103,11 @@ fn print_report<R: Threads + Wait, K: Sink, G: Gate + Send + Sync + 'static>(
 }
 
 /// Does the commands, and prints the one line that counts what came of them.
-fn print_summary<R: Threads + Wait, K: Sink, G: Gate + Send + Sync + 'static>(
+fn print_summary<
+    R: Threads + Wait + Copy + Send + 'static,
+    K: Sink,
+    G: Gate + Send + Sync + 'static,
+>(
     rt: &R,
     heap: &mut Heap<'_, G>,
     commands: &[Command],
@@ -122,7 +134,7 @@ fn print_summary<R: Threads + Wait, K: Sink, G: Gate + Send + Sync + 'static>(
 }
 
 /// Does the commands in order.
-fn do_all<R: Threads + Wait, G: Gate + Send + Sync + 'static>(
+fn do_all<R: Threads + Wait + Copy + Send + 'static, G: Gate + Send + Sync + 'static>(
     rt: &R,
     heap: &mut Heap<'_, G>,
     commands: &[Command],

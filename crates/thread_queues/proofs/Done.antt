@@ -1,17 +1,14 @@
 -- The orders of one thread, one after the other.
-use Rattle.std.proofs.Common.{◌≡◌, ℕ, List, [], ◌∷◌, ◌++◌, Contains, length, refl, sym, ap, ◌∙◌, subst, arith}
-use Rattle.std.specs.List.{All}
-use Rattle.std.proofs.lemmas.List.{append-nil, append_assoc, map-append}
-use Rattle.std.proofs.lemmas.List.Elements.{All-nil, All-push, Contains-append_left, Contains-push}
+use Rattle.std.proofs.Common.{◌≡◌, ◌<◌, ◌+◌, ℕ, List, [], ◌∷◌, ◌++◌, length, take, get_or, refl, sym, ap, ◌∙◌, subst}
+use Rattle.std.proofs.lemmas.List.{append-nil, append_assoc, map-append, take_more}
 use Rattle.gc_graph.specs.declared.command.Order.{Order}
 use Rattle.gc_graph.specs.declared.line.Line.{Line}
 use Rattle.gc_graph.specs.declared.region.Entry.{Entry}
 use Rattle.gc_graph.specs.RegionSteps.{Answer, AnswersOrder, HasDone, entries_by, entry_of, op_of, reply_line}
-use Rattle.cross_thread_region.specs.declared.chronicle.PlacedEntry.{PlacedEntry}
 use Rattle.cross_thread_region.specs.Histories.{entries_of}
-use Rattle.cross_thread_region.specs.Calls.{PassView}
-use Rattle.thread_queues.specs.declared.totals.Totals.{Totals}
-use Rattle.thread_queues.specs.Orders.{OrderDone, ThreadDone, ThreadGone, LineTellsTotals}
+use Rattle.heap_stats.specs.Boards.{ReaderView}
+use Rattle.thread_queues.specs.declared.working.OwnPasses.{OwnPasses}
+use Rattle.thread_queues.specs.Orders.{OrderDone, ThreadDone, IsReadOn, totals_in, totals_of}
 use Rattle.thread_queues.proofs.Entries.{by_append}
 
 done_next : (j : ℕ) (orders : List Order) (answers : List Answer) (entries : List Entry) (order : Order) (answer : Answer) → HasDone j orders answers entries
@@ -27,29 +24,29 @@ done_next j (o ∷ orders) (b ∷ answers) entries order answer h a = (
 done_next j [] (b ∷ answers) entries order answer h a = absurd h
 done_next j (o ∷ orders) [] entries order answer h a = absurd h
 
--- where there are no orders there are no answers
-none_answered : (j : ℕ) (answers : List Answer) (entries : List Entry) → HasDone j [] answers entries → answers ≡ []
-none_answered j [] entries h = refl
-none_answered j (answer ∷ answers) entries h = absurd h
+totals_push : (answers : List Answer) (answer : Answer) → totals_in (answers ++ answer ∷ []) ≡ totals_in answers ++ totals_of answer
+totals_push [] answer = append-nil (totals_of answer)
+totals_push (a ∷ answers) answer =
+    ap (λ l. totals_of a ++ l) (totals_push answers answer) ∙ sym (append_assoc (totals_of a) (totals_in answers) (totals_of answer))
 
 -- a thread has not begun
-pub thread_none : (j : ℕ) (totals : Totals) (history : List PlacedEntry) (replies : List Line) → replies ≡ [] → ThreadDone j [] totals history history replies
-thread_none j totals history replies e = record {
+pub thread_none : (j : ℕ) (own : OwnPasses) (replies : List Line) → replies ≡ [] → ThreadDone j [] own own replies
+thread_none j own replies e = record {
   made = [];
-  seen = sym (append-nil history);
+  seen = sym (append-nil own.region.seen);
   answers = [];
   done = refl;
   replies_are = e;
-  told = subst (All (LineTellsTotals totals)) (sym e) (All-nil (LineTellsTotals totals));
+  read = sym (append-nil own.board.read);
 }
 
 -- a thread has done one more order
-pub thread_next : (j : ℕ) (orders : List Order) (order : Order) (totals : Totals) (a b c : List PlacedEntry) (old new : List Line) (line : Line)
-    → ThreadDone j orders totals a b old → OrderDone j order totals b c line → new ≡ old ++ line ∷ []
-    → ThreadDone j (orders ++ order ∷ []) totals a c new
-thread_next j orders order totals a b c old new line t o e = record {
+pub thread_next : (j : ℕ) (orders : List Order) (order : Order) (a b c : OwnPasses) (old new : List Line) (told : Line)
+    → ThreadDone j orders a b old → OrderDone j order b c told → new ≡ old ++ told ∷ []
+    → ThreadDone j (orders ++ order ∷ []) a c new
+thread_next j orders order a b c old new told t o e = record {
   made = t.made ++ o.made;
-  seen = o.seen ∙ ap (λ h. h ++ o.made) t.seen ∙ append_assoc a t.made o.made;
+  seen = o.seen ∙ ap (λ h. h ++ o.made) t.seen ∙ append_assoc a.region.seen t.made o.made;
   answers = t.answers ++ o.answer ∷ [];
   done =
       subst (HasDone j (orders ++ order ∷ []) (t.answers ++ o.answer ∷ []))
@@ -58,37 +55,27 @@ thread_next j orders order totals a b c old new line t o e = record {
   replies_are =
       e ∙ ap (λ l. old ++ l ∷ []) o.line_is ∙ ap (λ l. l ++ reply_line j o.answer ∷ []) t.replies_are
       ∙ sym (map-append (reply_line j) t.answers (o.answer ∷ []));
-  told = subst (All (LineTellsTotals totals)) (sym e) (All-push (LineTellsTotals totals) old line t.told o.told);
+  read =
+      o.read ∙ ap (λ l. l ++ totals_of o.answer) t.read ∙ append_assoc a.board.read (totals_in t.answers) (totals_of o.answer)
+      ∙ ap (λ l. a.board.read ++ l) (sym (totals_push t.answers o.answer));
 }
 
--- a thread without orders has gone
-pub gone_without : (j : ℕ) (orders : List Order) (totals : Totals) (base : List PlacedEntry) (passes : List PassView) (replies : List Line)
-    → length orders ≡ 0 → replies ≡ [] → ThreadGone j orders totals base passes passes replies
-gone_without j orders totals base passes replies none e = record {
-  kept = λ p among. among;
-  answers = [];
-  none = λ empty. refl;
-  done = λ some. absurd (omega (arith, some, none));
-  replies_are = e;
-  told = subst (All (LineTellsTotals totals)) (sym e) (All-nil (LineTellsTotals totals));
+-- a thread has done the first i of its orders, and does the next
+pub thread_goes_on : (j : ℕ) (orders : List Order) (i : ℕ) (order : Order) (a b c : OwnPasses) (old new : List Line) (told : Line)
+    → i < length orders → order ≡ get_or orders i order
+    → ThreadDone j (take i orders) a b old → OrderDone j order b c told → new ≡ old ++ told ∷ []
+    → ThreadDone j (take (i + 1) orders) a c new
+thread_goes_on j orders i order a b c old new told low e t o grown =
+    subst (λ (l : List Order). ThreadDone j l a c new)
+    (sym (take_more orders i order low ∙ ap (λ (o : Order). take i orders ++ o ∷ []) (sym e)))
+    (thread_next j (take i orders) order a b c old new told t o grown)
+
+-- a pass of the board that read more and more
+pub reads_on : (a b c : ReaderView) → IsReadOn a b → IsReadOn b c → IsReadOn a c
+reads_on a b c first second = record {
+  rest = second.rest ∙ ap (λ (r : ReaderView). record r { seen = c.seen; read = c.read }) first.rest;
 }
 
--- a thread has gone with the last one of these passes
-pub gone_with : (j : ℕ) (orders : List Order) (totals : Totals) (base : List PlacedEntry) (old new : List PassView) (own : PassView) (replies : List Line)
-    → ThreadDone j orders totals base own.seen replies → own.number ≡ j → new ≡ old ++ own ∷ [] → ThreadGone j orders totals base old new replies
-gone_with j orders totals base old new own replies t number is = record {
-  kept = λ p among. subst (λ passes. Contains passes p) (sym is) (Contains-append_left old (own ∷ []) p among);
-  answers = t.answers;
-  none = λ empty. none_answered j t.answers (entries_by j (entries_of t.made))
-      (subst (λ os. HasDone j os t.answers (entries_by j (entries_of t.made))) empty t.done);
-  done = λ some. record {
-    pass = own;
-    among = subst (λ passes. Contains passes own) (sym is) (Contains-push old own);
-    number_is = number;
-    made = t.made;
-    seen = t.seen;
-    done = t.done;
-  };
-  replies_are = t.replies_are;
-  told = t.told;
-}
+-- it is of the same board
+pub board_stays : (a b : ReaderView) → IsReadOn a b → b.board ≡ a.board
+board_stays a b on = ap (λ (r : ReaderView). r.board) on.rest

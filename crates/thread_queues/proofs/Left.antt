@@ -4,10 +4,10 @@ use Rattle.std.specs.List.{list_any, range_with_len}
 use Rattle.std.proofs.lemmas.Bool.{cases_Bool, ltb-false, true≢false}
 use Rattle.std.proofs.lemmas.List.{nil_from_length}
 use Rattle.gc_graph.specs.declared.command.Order.{Order}
-use Rattle.gc_graph.specs.declared.line.Line.{Line}
 use Rattle.gc_graph.specs.Members.{Contains-head, Contains-cons, holds_from, stays_in}
 use Rattle.cross_thread_region.specs.Calls.{PassView}
-use Rattle.thread_queues.specs.Queues.{QueuesView, QueueView, orders_of, replies_of, queue_in, threads_in, queues_left, view_of}
+use Rattle.heap_stats.specs.declared.totals.Totals.{Totals}
+use Rattle.thread_queues.specs.Queues.{QueuesView, ThreadView, orders_of, passes_of, replies_of, queue_in, threads_in, queues_left, view_of}
 use Rattle.thread_queues.proofs.Threads.{has_orders}
 
 left_none : (queues : List (List Order)) (j : ℕ) → Contains (range_with_len 1 8) j
@@ -31,20 +31,20 @@ none_are_left : (queues : List (List Order)) → queues_left queues (threads_in 
 none_are_left queues = all_none (λ j. cond (list_any (λ k. eqb k j) (threads_in queues)) [] (queue_in queues j)) 1 8 (left_none queues)
 
 -- the threads that run are those with orders
-running_is : (queues : List QueueView) (awaiting : Bool) (passes : List PassView) (old : QueuesView) → view_of queues awaiting passes ≡ old → old.awaiting ≡ true
-    → old.running ≡ threads_in old.queues
-running_is queues awaiting passes old viewed awaits =
-    sym (ap (λ (v : QueuesView). v.running) viewed) ∙ ap (λ b. cond b (threads_in (orders_of queues)) []) (ap (λ (v : QueuesView). v.awaiting) viewed ∙ awaits)
+pub running_is : (threads : List ThreadView) (awaiting away : Bool) (last : Totals) (since : List Totals) (old : QueuesView)
+    → view_of threads awaiting away last since ≡ old → old.awaiting ≡ true → old.running ≡ threads_in old.queues
+running_is threads awaiting away last since old viewed awaits =
+    sym (ap (λ (v : QueuesView). v.running) viewed) ∙ ap (λ b. cond b (threads_in (orders_of threads)) []) (ap (λ (v : QueuesView). v.awaiting) viewed ∙ awaits)
     ∙ ap (λ (v : QueuesView). threads_in v.queues) viewed
 
 -- what a join leaves
-pub joined_is : (queues left : List QueueView) (awaiting : Bool) (passes none : List PassView) (old : QueuesView) → view_of queues awaiting passes ≡ old
-    → old.awaiting ≡ true → orders_of left ≡ replicate 8 [] → replies_of left ≡ replies_of queues → none ≡ []
-    → view_of left false none ≡ record old { queues = queues_left old.queues old.running; running = []; awaiting = false; passes = [] }
-joined_is queues left awaiting passes none old viewed awaits cleared told empty =
+pub joined_is : (threads left : List ThreadView) (awaiting away : Bool) (last : Totals) (since : List Totals) (old : QueuesView)
+    → view_of threads awaiting away last since ≡ old → old.awaiting ≡ true → orders_of left ≡ replicate 8 [] → passes_of left ≡ passes_of threads
+    → view_of left false away last since
+    ≡ record old { queues = queues_left old.queues old.running; running = []; awaiting = false; replies = replies_of left }
+joined_is threads left awaiting away last since old viewed awaits cleared here =
     let empty_queues : orders_of left ≡ queues_left old.queues old.running =
-    cleared ∙ sym (none_are_left old.queues) ∙ ap (queues_left old.queues) (sym (running_is queues awaiting passes old viewed awaits)) in
-    ap (λ (x : List (List Order)). record { queues = x; running = []; awaiting = false; replies = replies_of left; passes = none }) empty_queues
-    ∙ ap (λ (x : List Line). record { queues = queues_left old.queues old.running; running = []; awaiting = false; replies = x; passes = none })
-    (told ∙ ap (λ (v : QueuesView). v.replies) viewed)
-    ∙ ap (λ (x : List PassView). record { queues = queues_left old.queues old.running; running = []; awaiting = false; replies = old.replies; passes = x }) empty
+    cleared ∙ sym (none_are_left old.queues) ∙ ap (queues_left old.queues) (sym (running_is threads awaiting away last since old viewed awaits)) in
+    ap (λ (x : List (List Order)). record (view_of left false away last since) { queues = x }) empty_queues
+    ∙ ap (λ (x : List PassView). record (view_of left false away last since) { queues = queues_left old.queues old.running; passes = x }) here
+    ∙ ap (λ (v : QueuesView). record v { queues = queues_left old.queues old.running; running = []; awaiting = false; replies = replies_of left }) viewed

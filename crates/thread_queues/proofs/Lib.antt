@@ -2,8 +2,15 @@ mod Threads
 mod Entries
 mod Calls
 mod Done
+mod Ended
+mod Answered
+mod Away
+mod Begin
+mod Back
+mod Posted
+mod Waited
+mod Whole
 mod Passes
 mod Joining
-mod Through
 mod Held
 mod Left

@@ -2,7 +2,7 @@
 use Rattle.std.proofs.Common.{◌≡◌, ◌≢◌, ℕ, ◌+◌, ◌<◌, ◌≤◌, List, [], ◌∷◌, ◌++◌, length, map, reverse, refl, sym, ap, ◌∙◌, subst, arith, cond, eqb, not, Contains}
 use Rattle.std.specs.List.{All, filter}
 use Rattle.std.proofs.lemmas.Bool.{eq-eqb, ne_eqb}
-use Rattle.std.proofs.lemmas.List.{length_push, map_push, reverse-append}
+use Rattle.std.proofs.lemmas.List.{map_push, reverse-append}
 use Rattle.std.proofs.lemmas.List.Elements.{All-nil, All-cons, All-head, All-tail, All-push, All-take, All-weaker, All-contains, Contains-push}
 use Rattle.std.proofs.Math.Seq.{take-append_seam}
 use Rattle.cross_thread_region.specs.Calls.{RegionView, PassView, IsPassReady}
@@ -36,7 +36,6 @@ out_next region pass split own passes thread o is above its =
           subst (All (λ n. n < thread + 1)) (sym out)
           (All-cons (λ n. n < thread + 1) thread pass.out (omega arith)
           (All-weaker (λ n. n < thread) (λ n. n < thread + 1) (λ n less. omega (arith, less)) pass.out o.low));
-      few = omega (arith, length_push passes own, o.few);
     }
 
 -- and none is where a thread has no orders
@@ -45,7 +44,6 @@ pub out_same : (region : RegionView) (pass : PassView) (passes : List PassView) 
 out_same region pass passes thread o = record {
   out = o.out;
   low = All-weaker (λ n. n < thread) (λ n. n < thread + 1) (λ n less. omega (arith, less)) pass.out o.low;
-  few = omega (arith, o.few);
 }
 
 -- before the first thread goes none is
@@ -60,16 +58,11 @@ none_out region pass passes alone none =
         once = subst Descend (sym alone) tt;
       };
       low = subst (All (λ n. n < 1)) (sym alone) (All-nil (λ n. n < 1));
-      few = omega arith;
     })
 
--- no pass that is out has the thread's number
-pub thread_new : (thread : ℕ) (out : List ℕ) → All (λ n. n < thread) out → Contains out thread → ⊥
-thread_new thread out low there = omega (arith, All-contains (λ n. n < thread) out thread low there)
-
 -- what a pass has out that differs from another one in that alone
-pub out_is : (pass new : PassView) (out : List ℕ) → new ≡ record pass { out = out } → new.out ≡ out
-out_is pass new out is = ap (λ (p : PassView). p.out) is
+pub all_out : (P : ℕ → Type 0) (pass new : PassView) (out : List ℕ) → new ≡ record pass { out = out } → All P out → All P new.out
+all_out P pass new out is all = subst (All P) (sym (ap (λ (p : PassView). p.out) is)) all
 
 -- a pass that differs from another one only in what it has out, and then from that one's
 pub out_alone : (begun pass new : PassView) (out : List ℕ) → pass ≡ record begun { out = pass.out } → new ≡ record pass { out = out }

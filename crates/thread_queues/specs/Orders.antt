@@ -1,47 +1,51 @@
 -- What the crate's own code cites: one order done, those of one thread, and the passes with which threads do them.
-use Rattle.std.specs.Prelude.{◌≡◌, ◌≢◌, ◌<◌, ℕ, nat_lt, List, [], ◌∷◌, ◌++◌, length, map, reverse, All, Contains, ⊤, if◌then◌else◌}
+use Rattle.std.specs.Prelude.{◌≡◌, ◌≢◌, ◌<◌, ℕ, nat_lt, List, [], ◌∷◌, ◌++◌, length, map, reverse, All, if◌then◌else◌}
 use Rattle.gc_graph.specs.declared.command.Order.{Order}
 use Rattle.gc_graph.specs.declared.line.Line.{Line}
-use Rattle.gc_graph.specs.declared.line.Line.TheVariants as L
 use Rattle.gc_graph.specs.RegionSteps.{Answer, AnswersOrder, HasDone, entries_by, entry_of, op_of, reply_line}
+use Rattle.gc_graph.specs.RegionSteps.Answer.{Replied, Told}
 use Rattle.cross_thread_region.specs.declared.chronicle.PlacedEntry.{PlacedEntry}
 use Rattle.cross_thread_region.specs.Histories.{entries_of}
 use Rattle.cross_thread_region.specs.Calls.{RegionView, PassView, IsPassReady}
-use Rattle.thread_queues.specs.declared.totals.Totals.{Totals}
-use Rattle.thread_queues.specs.Going.{AreTotals, Descend, HasDoneWith}
+use Rattle.heap_stats.specs.Boards.{ReaderView}
+use Rattle.heap_stats.specs.declared.totals.Totals.{Totals}
+use Rattle.thread_queues.specs.declared.working.OwnPasses.{OwnPasses}
+use Rattle.thread_queues.specs.Going.{Descend}
 
--- a line that tells totals tells these
-abbrev pub LineTellsTotals : Totals → Line → Type 0
-LineTellsTotals totals (L.ReplyTotals j o n u f) = AreTotals totals o n u f
-LineTellsTotals totals _ = ⊤
+-- the totals that an answer tells
+abbrev pub totals_of : Answer → List Totals
+totals_of (Replied reply) = []
+totals_of (Told o n u f) = record { ordinal = o; objects = n; used = u; finalised = f } ∷ []
 
--- thread j has done an order, and the line tells how it was answered: its pass has seen its entry, and those of others
-pub record OrderDone (j : ℕ) (order : Order) (totals : Totals) (before after : List PlacedEntry) (line : Line) : Type 0 where
+-- the totals that answers tell, in order
+abbrev pub totals_in : List Answer → List Totals
+totals_in [] = []
+totals_in (answer ∷ answers) = totals_of answer ++ totals_in answers
+
+-- the pass of the board has read these totals too
+pub record IsReadOn (old new : ReaderView) : Type 0 where
+  pub rest : new ≡ record old { seen = new.seen; read = new.read }
+
+-- thread j has done an order, and the line tells how it was answered: its pass has seen its entry, and those of others, and its pass of
+-- the board has read what it was told
+pub record OrderDone (j : ℕ) (order : Order) (before after : OwnPasses) (line : Line) : Type 0 where
   pub made : List PlacedEntry
-  pub seen : after ≡ before ++ made
+  pub seen : after.region.seen ≡ before.region.seen ++ made
   pub answer : Answer
   pub answers_order : AnswersOrder (op_of order) answer
   pub entries : entries_by j (entries_of made) ≡ entry_of j (op_of order) answer
   pub line_is : line ≡ reply_line j answer
-  pub told : LineTellsTotals totals line
+  pub read : after.board.read ≡ before.board.read ++ totals_of answer
 
--- thread j has done its orders, and these replies tell how they were answered: its pass has seen its entries, and those of others
-pub record ThreadDone (j : ℕ) (orders : List Order) (totals : Totals) (before after : List PlacedEntry) (replies : List Line) : Type 0 where
+-- thread j has done its orders, and these replies tell how they were answered: its pass has seen its entries, and those of others, and
+-- its pass of the board has read what it was told
+pub record ThreadDone (j : ℕ) (orders : List Order) (before after : OwnPasses) (replies : List Line) : Type 0 where
   pub made : List PlacedEntry
-  pub seen : after ≡ before ++ made
+  pub seen : after.region.seen ≡ before.region.seen ++ made
   pub answers : List Answer
   pub done : HasDone j orders answers (entries_by j (entries_of made))
   pub replies_are : replies ≡ map (reply_line j) answers
-  pub told : All (LineTellsTotals totals) replies
-
--- thread j has done its orders, where it has any, with a pass that came to the others, and these replies tell how they were answered
-pub record ThreadGone (j : ℕ) (orders : List Order) (totals : Totals) (base : List PlacedEntry) (old new : List PassView) (replies : List Line) : Type 0 where
-  pub kept : (p : PassView) → Contains old p → Contains new p
-  pub answers : List Answer
-  pub none : orders ≡ [] → answers ≡ []
-  pub done : 0 < length orders → HasDoneWith new base j orders answers
-  pub replies_are : replies ≡ map (reply_line j) answers
-  pub told : All (LineTellsTotals totals) replies
+  pub read : after.board.read ≡ before.board.read ++ totals_in answers
 
 -- ---- passes
 
@@ -63,7 +67,6 @@ pub record HasOut (region : RegionView) (pass : PassView) (passes : List PassVie
 pub record HasOutBelow (region : RegionView) (pass : PassView) (passes : List PassView) (thread : ℕ) : Type 0 where
   pub out : HasOut region pass passes
   pub low : All (λ n. n < thread) pass.out
-  pub few : length passes < thread
 
 -- the numbers that are out after a thread went: its own too, where it has orders
 abbrev pub out_after : ℕ → List Order → List ℕ → List ℕ

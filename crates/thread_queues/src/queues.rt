@@ -1,54 +1,75 @@
-// The queues of the script's threads, and the replies of those that went last.
+// The threads of a script, with the board that they read.
 
-ghost use Rattle.std.specs.Prelude.{◌≡◌, ◌^◌, ◌<◌, ◌≤◌, [], true, false, length, IfOk, OnOk, OnErr, Some};
-ghost use Rattle.std.specs.Prelude.{slice_get, replicate, vec_capacity};
-ghost use Rattle.gc_graph.specs.Lawful.{IsAllowedOrder};
-ghost use Rattle.thread_queues.specs.Queues.{no_orders, with_order, threads_in, queues_left};
-ghost use Rattle.thread_queues.specs.Queues.{orders_of, replies_of};
-ghost use Rattle.thread_queues.specs.Going.{AreOut, IsFirst, HaveGone, HaveMet};
-ghost use Rattle.thread_queues.specs.Orders.{HasOut};
+ghost use Rattle.std.specs.Prelude.{◌≡◌, ◌<◌, ◌≤◌, [], true, false, IfOk, OnOk, OnErr, length};
+ghost use Rattle.std.specs.Arc.{arc_value};
+ghost use Rattle.gc_graph.specs.Lawful.{IsAllowedOrder, TotalsNeverFall};
+ghost use Rattle.thread_queues.specs.Queues.{no_orders, with_order, threads_in, queues_left, posted};
+ghost use Rattle.thread_queues.specs.Going.{AreOut, HaveBegun, HaveReturned, IsFirst, TellSomeOf};
 
-use crate::going::go_all;
-use crate::queue::Queue;
-use crate::totals::Totals;
+use crate::all_threads::{THREADS, clear_all, count_threads, go_all, idle_threads};
+use crate::published;
+use crate::published::TotalsLists;
+use crate::returning::{join_all, wait_for_all};
+use crate::script_thread::ScriptThread;
+use crate::starting::Shared;
 use cross_thread_region::{Pass, Region};
-use gc_graph::{Line, NoMemory, Order};
+use gc_graph::{NoMemory, Order};
+use ghost_values::GhostValue;
+use heap_stats::{Board, Publisher, Totals};
 use std::alloc::Global;
 use std::marker::Model;
-use std::sync::Wait;
+use std::sync::{Arc, Wait};
+use std::thread::Threads;
+use thread_gate::Gate;
 
-const THREADS: u32 = 8;
-
-/// The orders that wait for threads 1 to 8, and the replies of the threads that went last. Orders are
-/// queued, then the threads go, and then they are joined.
+/// Threads 1 to 8 of a script: the orders that wait for each, the replies of those that were joined
+/// last, and the board that they read, with the right to publish. Orders are queued, then the threads
+/// go, and then they are joined. Only the thread that owns the heap calls it.
 #[derive(Drop)]
 pub struct ThreadQueues {
-    queues: Vec<Queue>,
-    passes: Vec<Pass>,
+    pub(crate) threads: Vec<ScriptThread>,
+    /// The passes of threads that came back, until they are joined: none between two calls.
+    back: Vec<Pass>,
+    board: Arc<Board>,
+    publisher: Publisher,
+    /// What was published since the threads went last, before what was published last.
+    since: GhostValue<TotalsLists>,
     awaiting: bool,
+    /// Whether threads went, and neither a join nor a dismissal has waited for them.
+    away: bool,
 }
 
 impl Model for ThreadQueues {
-    ghost use Rattle.std.specs.Prelude.{vec_capacity};
-    ghost use Rattle.thread_queues.specs.Queues.{QueuesView, QueuesHaveRoom, view_of};
+    ghost use Rattle.std.specs.Prelude.{◌≡◌, [], vec_capacity};
+    ghost use Rattle.std.specs.Arc.{arc_value};
+    ghost use Rattle.thread_queues.specs.Queues.{QueuesView, view_of};
+    ghost use Rattle.thread_queues.specs.Runs.{IsPosted, ThreadsAreHere};
 
     ghost Value = { QueuesView };
 
-    ghost view = { λ q. view_of q.queues.items q.awaiting q.passes.items };
+    ghost view = { λ q.
+        view_of q.threads.items q.awaiting q.away q.publisher.last q.since.value };
 
     ghost invariant = { λ q.
-        QueuesHaveRoom q.queues.items q.awaiting q.passes.items (vec_capacity q.passes) };
+        ThreadsAreHere q.threads.items q.awaiting q.away (vec_capacity q.back)
+        × (q.back.items ≡ [])
+        × IsPosted (arc_value q.board) q.publisher q.since.value q.threads.items };
 }
 
 impl ThreadQueues {
-    /// Queues without orders. Want of memory is free.
+    /// Threads without orders, and a board with four zeros. Want of memory is free.
     pub fn new(alloc: Global) -> Result<ThreadQueues, NoMemory>
         ensures { IfOk result (λ made. made ≡ no_orders) }
     {
+        let (board, publisher) = Board::new(alloc)?;
         Ok(ThreadQueues {
-            queues: empty_queues(alloc)?,
-            passes: Vec::with_capacity(alloc, THREADS as usize)?,
+            threads: idle_threads(alloc)?,
+            back: Vec::with_capacity(alloc, THREADS as usize)?,
+            board: Arc::new(alloc, board)?,
+            publisher,
+            since: published::none(),
             awaiting: false,
+            away: false,
         })
     }
 
@@ -62,35 +83,65 @@ impl ThreadQueues {
             ≡ record self.old { queues = with_order self.old.queues thread order }) }
         ensures refused { OnErr result (self.new ≡ self.old) }
     {
-        let queue = &mut self.queues[(thread - 1) as usize];
-        queue.push(order)?;
+        let thread = &mut self.threads[(thread - 1) as usize];
+        thread.push(order)?;
         Ok(())
     }
 
-    /// The threads whose queues aren't empty do their orders, each with a pass of its own, which stays
-    /// out, and a join is awaited. Answers how many they are.
-    pub fn go<R: Wait>(&mut self, rt: &R, region: &Region, pass: &mut Pass, totals: Totals) -> u32
-        requires joined { self.old.awaiting ≡ false }
-        requires first { IsFirst region.now pass.old }
-        requires alone { pass.old.out ≡ [] }
-        ensures queues { self.new.queues ≡ self.old.queues }
-        ensures running { self.new.running ≡ threads_in self.old.queues }
-        ensures awaiting { self.new.awaiting ≡ true }
-        ensures count { result ≡ length self.new.running }
-        ensures went { HaveGone self.old.queues totals pass.old.seen self.new.passes
-            self.new.replies }
-        ensures pass { pass.new ≡ record pass.old { out = pass.new.out } }
-        ensures first { IsFirst region.now pass.new }
-        ensures outs { AreOut region.now pass.new self.new }
+    /// Publishes the totals of the heap, which threads that are away may read from now on.
+    pub fn publish<R: Wait>(&mut self, rt: &R, totals: Totals)
+        requires later { self.old.last.ordinal < totals.ordinal }
+        ensures { self.new
+            ≡ record self.old { since = posted self.old.since self.old.last; last = totals } }
     {
-        go_all(rt, &mut self.queues, &mut self.passes, region, pass, totals);
-        self.awaiting = true;
-        count_threads(&self.queues)
+        self.since = published::with_last(&self.since, &self.publisher);
+        self.board.publish(rt, &mut self.publisher, totals);
     }
 
-    /// The threads that went are joined, and their queues are empty. The first pass has then seen what
-    /// their passes have, and no other one is out. Answers how many threads they were.
-    pub fn join(&mut self, region: &Region, pass: &mut Pass) -> u32
+    /// A thread is started for each queue that isn't empty, with a pass that is split off the first one,
+    /// and one of the board that has seen what was published last. Where a thread is refused, or a clone
+    /// for it, its orders are done here. A join is awaited then. Answers how many they are.
+    pub fn go<R: Threads + Wait + Copy + Send + 'static, G: Gate + Send + Sync + 'static>(
+        &mut self,
+        rt: &R,
+        region: &Arc<Region>,
+        pass: &mut Pass,
+        gate: &Arc<G>,
+    ) -> u32
+        requires joined { self.old.awaiting ≡ false }
+        requires first { IsFirst (arc_value region.now) pass.old }
+        requires alone { pass.old.out ≡ [] }
+        ensures count { result ≡ length (threads_in self.old.queues) }
+        ensures gone { self.new ≡ record self.old {
+          running = threads_in self.old.queues;
+          awaiting = true;
+          away = true;
+          replies = [];
+          passes = self.new.passes;
+          since = [];
+        } }
+        ensures began { HaveBegun self.old.queues pass.old.seen self.new.passes }
+        ensures pass { pass.new ≡ record pass.old { out = pass.new.out } }
+        ensures first { IsFirst (arc_value region.now) pass.new }
+        ensures outs { AreOut (arc_value region.now) pass.new self.new }
+    {
+        let count = count_threads(&self.threads);
+        self.since = published::none();
+        let shared = Shared {
+            region,
+            board: &self.board,
+            gate,
+        };
+        go_all(rt, &mut self.threads, &shared, pass, &mut self.publisher);
+        self.awaiting = true;
+        self.away = true;
+        count
+    }
+
+    /// Waits for the threads that went, whose queues are empty then, and takes their passes back. The
+    /// first pass has then seen what theirs have, and no other one is out. Answers how many they were.
+    pub fn join<R: Threads + Wait>(&mut self, rt: &R, region: &Region, pass: &mut Pass) -> u32
+        requires away { self.old.away ≡ true }
         requires awaited { self.old.awaiting ≡ true }
         requires first { IsFirst region.now pass.old }
         requires outs { AreOut region.now pass.old self.old }
@@ -99,58 +150,69 @@ impl ThreadQueues {
           queues = queues_left self.old.queues self.old.running;
           running = [];
           awaiting = false;
+          away = false;
+          replies = self.new.replies;
           passes = [];
         } }
         ensures pass { pass.new ≡ record pass.old { seen = pass.new.seen; out = [] } }
-        ensures met { HaveMet self.old.passes pass.old pass.new.seen }
+        ensures returned { HaveReturned self.old pass.old pass.new.seen self.new.replies }
+        ensures told { TellSomeOf (posted self.old.since self.old.last) self.new.replies }
+        ensures fall { TotalsNeverFall self.new.replies }
         ensures first { IsFirst region.now pass.new }
     {
-        let count = count_threads(&self.queues);
-        join_all(&mut self.passes, region, pass);
-        clear_queues(&mut self.queues);
+        self.take_back(rt, region, pass);
+        let count = count_threads(&self.threads);
+        clear_all(&mut self.threads);
         self.awaiting = false;
         count
     }
 
-    /// The passes of the threads that run are joined, whose orders and replies stay. The first pass has
-    /// then seen what they have, and no other one is out.
-    pub fn dismiss(&mut self, region: &Region, pass: &mut Pass)
+    /// Waits for the threads that are away, and takes their passes back. Their orders stay.
+    pub fn dismiss<R: Threads + Wait>(&mut self, rt: &R, region: &Region, pass: &mut Pass)
         requires first { IsFirst region.now pass.old }
         requires outs { AreOut region.now pass.old self.old }
-        ensures dismissed { self.new ≡ record self.old { passes = [] } }
+        ensures dismissed { self.new ≡ record self.old {
+          away = false;
+          replies = self.new.replies;
+          passes = [];
+        } }
         ensures pass { pass.new ≡ record pass.old { seen = pass.new.seen; out = [] } }
-        ensures met { HaveMet self.old.passes pass.old pass.new.seen }
+        ensures returned { self.old.away ≡ true
+            → HaveReturned self.old pass.old pass.new.seen self.new.replies }
+        ensures same { self.old.away ≡ false → pass.new ≡ pass.old }
         ensures first { IsFirst region.now pass.new }
     {
-        join_all(&mut self.passes, region, pass);
+        if self.away {
+            self.take_back(rt, region, pass);
+        }
     }
 
-    /// How many orders of the threads that went last were answered.
-    pub fn reply_count(&self) -> u32
-        ensures count { result ≡ length self.now.replies }
-        ensures few { length self.now.replies ≤ 2 ^ 30 }
+    /// Waits for the threads, and takes their passes back. Their orders stay.
+    fn take_back<R: Threads + Wait>(&mut self, rt: &R, region: &Region, pass: &mut Pass)
+        requires away { self.old.away ≡ true }
+        requires first { IsFirst region.now pass.old }
+        requires outs { AreOut region.now pass.old self.old }
+        ensures back { self.new ≡ record self.old {
+          away = false;
+          replies = self.new.replies;
+          passes = [];
+        } }
+        ensures pass { pass.new ≡ record pass.old { seen = pass.new.seen; out = [] } }
+        ensures returned { HaveReturned self.old pass.old pass.new.seen self.new.replies }
+        ensures told { TellSomeOf (posted self.old.since self.old.last) self.new.replies }
+        ensures fall { TotalsNeverFall self.new.replies }
+        ensures first { IsFirst region.now pass.new }
     {
-        let mut count = 0;
-        for i in 0..self.queues.len() {
-            count += self.queues[i].replies().len() as u32;
-        }
-        count
-    }
-
-    /// What one of these orders was answered, thread after thread.
-    pub fn reply(&self, index: u32) -> Line
-        requires { index < length self.now.replies }
-        ensures { slice_get self.now.replies index ≡ Some result }
-    {
-        let mut left = index;
-        for i in 0..self.queues.len() {
-            let replies = self.queues[i].replies();
-            if left < replies.len() as u32 {
-                return replies[left as usize];
-            }
-            left -= replies.len() as u32;
-        }
-        unreachable!()
+        wait_for_all(
+            rt,
+            &mut self.threads,
+            &self.board,
+            &mut self.publisher,
+            &self.since,
+            &mut self.back,
+        );
+        join_all(&mut self.back, region, pass);
+        self.away = false;
     }
 
     /// Whether a join is awaited.
@@ -165,57 +227,5 @@ impl ThreadQueues {
         ensures { self.now.awaiting ≡ false → self.now.running ≡ [] }
     {
         let _ = &self.awaiting;
-    }
-}
-
-fn empty_queues(alloc: Global) -> Result<Vec<Queue>, NoMemory>
-    ensures { IfOk result (λ queues. queues.items
-        ≡ replicate 8 (record { orders = []; replies = [] })) }
-{
-    let mut queues = Vec::with_capacity(alloc, THREADS as usize)?;
-    for _thread in 0..THREADS {
-        queues.push_reserved(Queue::new(alloc));
-    }
-    Ok(queues)
-}
-
-/// How many queues aren't empty.
-fn count_threads(queues: &Vec<Queue>) -> u32
-    requires { length queues.now.items ≡ 8 }
-    ensures { result ≡ length (threads_in (orders_of queues.now.items)) }
-{
-    let mut count = 0;
-    for i in 0..THREADS {
-        if !queues[i as usize].is_empty() {
-            count += 1;
-        }
-    }
-    count
-}
-
-/// Joins the passes, the last one first.
-fn join_all(passes: &mut Vec<Pass>, region: &Region, pass: &mut Pass)
-    requires first { IsFirst region.now pass.old }
-    requires out { HasOut region.now pass.old passes.old.items }
-    ensures none { passes.new.items ≡ [] }
-    ensures pass { pass.new ≡ record pass.old { seen = pass.new.seen; out = [] } }
-    ensures met { HaveMet passes.old.items pass.old pass.new.seen }
-    ensures first { IsFirst region.now pass.new }
-    ensures room { vec_capacity passes.new ≡ vec_capacity passes.old }
-{
-    while let Some(own) = passes.pop() {
-        region.join_pass(pass, own);
-    }
-}
-
-/// No order waits, and the replies stay to be told.
-fn clear_queues(queues: &mut Vec<Queue>)
-    requires { length queues.old.items ≡ 8 }
-    ensures orders { orders_of queues.new.items ≡ replicate 8 [] }
-    ensures replies { replies_of queues.new.items ≡ replies_of queues.old.items }
-{
-    for i in 0..queues.len() {
-        let queue = &mut queues[i];
-        queue.clear();
     }
 }

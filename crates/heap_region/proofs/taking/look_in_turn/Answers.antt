@@ -1,6 +1,5 @@
-use Rattle.std.proofs.Common.{◌≡◌, ◌<◌, ◌++◌, List, length, take, sym, ap, ◌∙◌, subst, arith}
+use Rattle.std.proofs.Common.{◌≡◌, ◌<◌, length, take, sym, ap, ◌∙◌, subst, arith}
 use Rattle.std.proofs.lemmas.List.{take-append-le}
-use Rattle.cross_thread_region.specs.declared.chronicle.PlacedEntry.{PlacedEntry}
 use Rattle.heap_region.specs.Handled.{IsHandled}
 use Rattle.heap_region.proofs.taking.look_in_turn.Goals as goal
 

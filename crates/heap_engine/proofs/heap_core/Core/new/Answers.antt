@@ -1,7 +1,8 @@
-use Rattle.std.proofs.Common.{◌≡◌, ◌≤◌, ◌++◌, All, inl, length, sym, ap, ◌∙◌, subst, arith}
+use Rattle.std.proofs.Common.{◌≡◌, ◌≤◌, ◌++◌, List, All, inl, length, sym, ap, ◌∙◌, subst, arith}
 use Rattle.std.proofs.lemmas.Bool.{true≢false}
 use Rattle.std.proofs.lemmas.List.Elements.{All-nil}
-use Rattle.gc_graph.specs.State.{Shape}
+use Rattle.gc_graph.specs.State.{Shape, State}
+use Rattle.heap_engine.specs.Going.{ArePublished}
 use Rattle.callback_table.specs.Table.{callback_kinds}
 use Rattle.marker_core.specs.Bodies.{holds}
 use Rattle.cross_thread_region.specs.Histories.{entries_of}
@@ -12,7 +13,7 @@ use Rattle.heap_cycle.specs.declared.parts.Parts.{Parts}
 use Rattle.heap_cycle.specs.Parts.{state_of}
 use Rattle.heap_cycle.specs.Printed.{Printed, IsOutcome, outcome_lines}
 use Rattle.heap_cycle.specs.Owned.{IsToldLine}
-use Rattle.heap_engine.proofs.HeapEmpty.{counted_empty, empty_parts, manned_empty, parts_empty, ready_empty, refusals_empty, region_empty}
+use Rattle.heap_engine.proofs.HeapEmpty.{board_empty, counted_empty, empty_parts, manned_empty, parts_empty, ready_empty, refusals_empty, region_empty}
 use Rattle.heap_engine.proofs.heap_core.Core.new.Given as given
 use Rattle.heap_engine.proofs.heap_core.Core.new.Goals as goal
 
@@ -38,7 +39,9 @@ invariant_of-result d c =
       made = subst (λ (s : Parts). length s.objects.nodes ≤ s.cycle.rest.ordinal) (sym (are_empty d c)) (omega arith);
       region = λ opened. region_empty parts heap shape c.args.config.markers c.args.types (callback_kinds c.args.callbacks.now) (are_empty d c);
       none_out = λ still. ap (λ (s : Parts). s.region.out) (are_empty d c);
-      totals = λ awaits. absurd (true≢false (sym awaits ∙ ap (λ (s : Parts). s.region.awaiting) (are_empty d c)));
+      board =
+          subst (λ (since : List State). ArePublished since (state_of parts) parts.region) (sym c.no_states.ensures)
+          (board_empty parts heap shape c.args.config.markers c.args.types (callback_kinds c.args.callbacks.now) (are_empty d c));
       replies = subst (λ (s : Parts). All IsToldLine s.region.told) (sym (are_empty d c)) (All-nil IsToldLine);
       joined = inl (ap (λ (s : Parts). s.region.told) (are_empty d c));
       counted = counted_empty parts heap shape c.args.config.markers c.args.types (callback_kinds c.args.callbacks.now) (are_empty d c);
@@ -72,3 +75,6 @@ returns-clause-lines d c =
 
 pub returns-clause-lent : goal.returns-clause-lent
 returns-clause-lent d c = ap (λ (s : Parts). s.objects.seat.lent) (are_empty d c)
+
+pub returns-clause-published : goal.returns-clause-published
+returns-clause-published d c = ap (λ (s : Parts). s.region.last) (are_empty d c)

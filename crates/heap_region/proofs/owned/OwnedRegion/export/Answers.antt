@@ -1,6 +1,7 @@
 use Rattle.std.proofs.Common.{◌≡◌, false, None, ap, sym, ◌∙◌, subst}
 use Rattle.gc_graph.specs.declared.region.Op.{Op}
 use Rattle.gc_graph.specs.declared.region.Op.TheVariants as O
+use Rattle.cross_thread_region.specs.Calls.{RegionView, IsPassReady}
 use Rattle.heap_region.specs.Calls.{HasEntered}
 use Rattle.heap_region.specs.Handled.{IsHandled, LooksAgain}
 use Rattle.heap_region.specs.Owned.{OwnedView}
@@ -34,7 +35,7 @@ look_at_seen-self-inside-requires g c =
     let at : In_default g = (goal.at.look_at_seen-self-inside-requires g c).In_default in
     let is : HasMade c.self.inside (op g at) (c.args.place) c.export.new.pass = made g at in
     record {
-      ready = still_ready is;
+      ready = subst (λ (x : RegionView). IsPassReady x c.export.new.pass) (sym c.deref-in_default.ensures) (still_ready is);
       few = few_taken is;
       valid = c.requires.valid;
       handled = may_look is c.args.objects.now.nodes (subst (λ (v : OwnedView). IsHandled c.args.objects.now.nodes v.taken) (sym c.self.view_is) c.requires.handled);

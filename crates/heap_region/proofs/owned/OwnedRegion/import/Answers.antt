@@ -2,7 +2,7 @@ use Rattle.std.proofs.Common.{◌≡◌, take, false, None, ap, sym, ◌∙◌, 
 use Rattle.gc_graph.specs.declared.region.Op.{Op}
 use Rattle.gc_graph.specs.declared.region.Op.TheVariants as O
 use Rattle.gc_graph.specs.History.{reply_of}
-use Rattle.cross_thread_region.specs.Calls.{PassView, placed_entry_of}
+use Rattle.cross_thread_region.specs.Calls.{IsPassReady, PassView, RegionView, placed_entry_of}
 use Rattle.cross_thread_region.specs.Histories.{place_told, slots_of}
 use Rattle.cross_thread_region.specs.NextEntries.{slots_next}
 use Rattle.heap_region.specs.Calls.{HasEntered}
@@ -72,7 +72,7 @@ look_at_seen-self-inside-requires g c =
     let at : In_default g = (goal.at.look_at_seen-self-inside-requires g c).In_default in
     let is : HasMade c.self.inside (op g at) (0) c.import-reply.new.pass = made g at in
     record {
-      ready = still_ready is;
+      ready = subst (λ (x : RegionView). IsPassReady x c.import-reply.new.pass) (sym c.deref-in_default.ensures) (still_ready is);
       few = few_taken is;
       valid = c.requires.valid;
       handled = may_look is c.args.objects.now.nodes (subst (λ (v : OwnedView). IsHandled c.args.objects.now.nodes v.taken) (sym c.self.view_is) c.requires.handled);

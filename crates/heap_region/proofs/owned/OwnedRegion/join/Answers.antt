@@ -10,13 +10,16 @@ use Rattle.heap_region.proofs.owned.OwnedRegion.join.Given as given
 use Rattle.heap_region.proofs.owned.OwnedRegion.join.Goals as goal
 use Rattle.heap_region.proofs.owned.OwnedRegion.join.Goals.{After-look-held, in-Some-1, in-None-1}
 
-met : (g : given.Over) (c : After-look-held g) → HasMet c.self.inside c.join-count.new.self c.join-count.new.pass c.look-held.result c.look-held.new.pass
+abbrev met : (g : given.Over) (c : After-look-held g) → HasMet c.self.inside c.join-count.new.self c.join-count.new.pass c.look-held.result c.look-held.new.pass
 met g c = record {
   owned = c.self.invariant;
   opened = ap (λ (v : OwnedView). v.closed) c.self.view_is ∙ c.requires.opened;
   awaits = ap (λ (v : OwnedView). v.awaiting) c.self.view_is ∙ c.requires.awaited;
   mid_is = c.join-count.ensures.pass;
-  met = c.join-count.ensures.met;
+  replies = c.join-count.new.self.replies;
+  returned = c.join-count.ensures.returned;
+  told = c.join-count.ensures.told;
+  fall = c.join-count.ensures.fall;
   legal = c.is_legal.ensures.legal;
   right = c.is_legal.ensures.right;
   left_is = c.join-count.ensures.joined;
@@ -32,7 +35,7 @@ look_again-requires-clause-handled g c k above below =
 pub invariant_of-self-then-lines-gt0-2 : goal.invariant_of-self-then-lines-gt0-2
 invariant_of-self-then-lines-gt0-2 g c =
     turn_kept (met g ((goal.at.invariant_of-self-then-lines-gt0-2 g c).After-look-held)) c.len-taken.result c.len-taken.ensures.count
-    (subst (λ n. 0 < n + (c.len-taken.result - c.self.inside.printed)) (c.reply_count.ensures.count ∙ ap (λ q. length q.replies) c.join-count.ensures.joined) (omega (arith, c.if-lines-gt0.true)))
+    (subst (λ n. 0 < n + (c.len-taken.result - c.self.inside.printed)) c.reply_count.ensures.count (omega (arith, c.if-lines-gt0.true)))
 
 pub returns-then-lines-gt0-clause-joined : goal.returns-then-lines-gt0-clause-joined
 returns-then-lines-gt0-clause-joined g c =
@@ -66,8 +69,8 @@ returns-else-lines-gt0-clause-joined g c =
     let at : After-look-held g = (goal.at.returns-else-lines-gt0-clause-joined g c).After-look-held in
     let r = c.self.inside in
     let ended = ended_fields (met g at) c.len-taken.result c.len-taken.ensures.count c.end_look.new.pass in
-    let none : length r.threads.replies + (c.len-taken.result - r.printed) ≡ 0 =
-    ap (λ n. n + (c.len-taken.result - r.printed)) (sym (c.reply_count.ensures.count ∙ ap (λ q. length q.replies) c.join-count.ensures.joined)) ∙ omega (arith, c.if-lines-gt0.false) in
+    let none : length c.join-count.new.self.replies + (c.len-taken.result - r.printed) ≡ 0 =
+    ap (λ n. n + (c.len-taken.result - r.printed)) (sym c.reply_count.ensures.count) ∙ omega (arith, c.if-lines-gt0.false) in
     subst (λ (held : Option HeldView). HasJoined c.args.self.now (owned_view (record ended { held = held })) c.join-count.result) (sym (none_kept g at))
     (subst (HasJoined c.args.self.now (owned_view ended)) (sym c.join-count.ensures.count)
     (subst (λ (v : OwnedView). HasJoined v (owned_view ended) (length r.threads.running)) c.self.view_is

@@ -1,6 +1,8 @@
 use Rattle.std.proofs.Common.{sym, ap, ◌∙◌, subst}
 use Rattle.cross_thread_region.specs.Calls.{PassView}
 use Rattle.cross_thread_region.specs.Histories.{is_started}
+use Rattle.cross_thread_region.specs.Calls.{RegionView}
+use Rattle.heap_objects.specs.Pausing.{IsPausable}
 use Rattle.heap_region.specs.Calls.{HasPauseEntry}
 use Rattle.heap_region.specs.Handled.{IsHandled}
 use Rattle.heap_region.specs.Owned.{OwnedView}
@@ -11,10 +13,11 @@ use Rattle.heap_region.proofs.owned.OwnedRegion.pause.Goals as goal
 
 pub finish-finished-requires-clause-shared : goal.finish-finished-requires-clause-shared
 finish-finished-requires-clause-shared g c =
-    may_pause c.self.inside c.self.invariant (ap (λ (v : OwnedView). v.closed) c.self.view_is ∙ c.requires.opened)
+    subst (λ (x : RegionView). IsPausable c.args.objects.now.nodes x c.self.inside.pass) (sym c.deref.ensures)
+    (may_pause c.self.inside c.self.invariant (ap (λ (v : OwnedView). v.closed) c.self.view_is ∙ c.requires.opened)
     (not_held c.self.inside c.self.invariant (ap (λ (v : OwnedView). v.told) c.self.view_is ∙ c.requires.quiet)) c.is_legal.ensures.legal c.is_legal.ensures.right
     c.args.objects.now.nodes (subst (λ (v : OwnedView). IsHandled c.args.objects.now.nodes v.taken) (sym c.self.view_is) c.requires.handled)
-    (ap (λ (v : OwnedView). is_started v.taken) c.self.view_is ∙ c.requires.started)
+    (ap (λ (v : OwnedView). is_started v.taken) c.self.view_is ∙ c.requires.started))
 
 pub invariant_of-self : goal.invariant_of-self
 invariant_of-self g c =

@@ -3,6 +3,7 @@ use Rattle.gc_graph.specs.declared.region.Op.{Op}
 use Rattle.gc_graph.specs.declared.region.Op.TheVariants as O
 use Rattle.gc_graph.specs.declared.region.Reply.TheVariants as R
 use Rattle.cross_thread_region.specs.Histories.{start_told}
+use Rattle.cross_thread_region.specs.Calls.{RegionView, IsPassReady}
 use Rattle.heap_region.specs.Calls.{HasEntered}
 use Rattle.heap_region.specs.Handled.{IsHandled, LooksAgain}
 use Rattle.heap_region.specs.Owned.{OwnedView}
@@ -36,7 +37,7 @@ look_at_seen-self-inside-requires g c =
     let at : In_default g = (goal.at.look_at_seen-self-inside-requires g c).In_default in
     let is : HasMade c.self.inside (op g at) (0) c.start_entry.new.pass = made g at in
     record {
-      ready = still_ready is;
+      ready = subst (λ (x : RegionView). IsPassReady x c.start_entry.new.pass) (sym c.deref-in_default.ensures) (still_ready is);
       few = few_taken is;
       valid = c.requires.valid;
       handled = may_look is c.args.objects.now.nodes (subst (λ (v : OwnedView). IsHandled c.args.objects.now.nodes v.taken) (sym c.self.view_is) c.requires.handled);
@@ -60,7 +61,7 @@ returns-in_default g c =
     ap (λ n. take n c.look_at_seen-self-inside.new.pass.seen) c.look_at_seen-self-inside.ensures.count ∙ all_taken (made g at) on in
     let reply : c.start_entry.result ≡ R.Done =
     reply_made r.pass (op g at) 0 c.start_entry.result c.start_entry.new.pass c.start_entry.ensures.call c.in_default.not-NoMemory in
-    let r_slots : r.region.slots ≡ 32 = c.self.invariant.owner.slots in
+    let r_slots : c.deref.result.now.slots ≡ 32 = ap (λ (x : RegionView). x.slots) c.deref.ensures ∙ c.self.invariant.owner.slots in
     record {
       entered = subst (λ (v : OwnedView). HasEntered (op g at) (0) v new) c.self.view_is
           (has_entered (made g at) on c.look_at_seen-self-inside.result c.look_at_seen-self-inside.ensures.count);

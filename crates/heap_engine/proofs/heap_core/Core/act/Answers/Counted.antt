@@ -1,5 +1,5 @@
 -- A command, once it is counted: what the heap then is, and what is owed of it.
-use Rattle.std.proofs.Common.{◌≡◌, ℕ, ◌<◌, true, false, [], ◌∷◌, ◌++◌, Option, Some, IfSome, length, drop, sym, ap, ◌∙◌, subst, inl, inr, arith, ◌+◌, List}
+use Rattle.std.proofs.Common.{◌≡◌, ℕ, ◌<◌, true, false, [], ◌∷◌, ◌++◌, Option, Some, IfSome, length, drop, map, refl, sym, ap, ◌∙◌, subst, inl, inr, arith, ◌+◌, List}
 use Rattle.std.specs.List.{Contains}
 use Rattle.std.proofs.lemmas.List.{length-append}
 use Rattle.gc_graph.specs.declared.command.Command.{Command}
@@ -8,8 +8,7 @@ use Rattle.gc_graph.specs.declared.phase.Phase.{Phase}
 use Rattle.gc_graph.specs.Graph.{IsWithin}
 use Rattle.gc_graph.specs.Outcomes.{answered}
 use Rattle.gc_graph.specs.Reach.{HoldsAll}
-use Rattle.gc_graph.specs.Sections.{IsInSection}
-use Rattle.gc_graph.specs.State.{Setup, State, slot_targets, strong_region_targets}
+use Rattle.gc_graph.specs.State.{Setup, slot_targets, strong_region_targets}
 use Rattle.gc_graph.specs.Step.{Step}
 use Rattle.gc_graph.specs.ThreadLaw.{IsCounted}
 use Rattle.gc_graph.specs.Valid.{IsValid}
@@ -22,7 +21,7 @@ use Rattle.heap_cycle.specs.Owned.{piece_of}
 use Rattle.heap_cycle.specs.Refused.{RefusalsTold}
 use Rattle.heap_cycle.specs.declared.parts.Parts.{Parts}
 use Rattle.heap_cycle.specs.Cycles.{AreSlotsMarked, HasNoRefusedPush}
-use Rattle.heap_cycle.specs.Parts.{setup_of, state_of, counted, IsManned, IsReady}
+use Rattle.heap_cycle.specs.Parts.{setup_of, state_of, counted, AreTied, IsManned, IsReady}
 use Rattle.heap_cycle.specs.Printed.{TellsNode, IsOutcome, lines_with, outcome_lines}
 use Rattle.heap_cycle.specs.Region.{HasRegion}
 use Rattle.heap_cycle.specs.Views.{CycleView}
@@ -33,8 +32,11 @@ use Rattle.heap_engine.proofs.MarksTold.{all_traced, roots_marked, some_run, sta
 use Rattle.heap_engine.proofs.CommandsDone.{quiet}
 use Rattle.heap_engine.proofs.LastLines.{last_plain, started_by, stepped_by}
 use Rattle.heap_engine.proofs.ThreadsTold.{started_behind, stepped_behind, walk_behind}
-use Rattle.heap_engine.proofs.TotalsTold.{never_fall, tell_one, totals_after}
-use Rattle.heap_engine.specs.Going.{AreOfOneOf, TellOneOf, since_after}
+use Rattle.heap_engine.proofs.TotalsTold.{last_stays, never_fall, posted_after, posted_is, tell_one}
+use Rattle.heap_engine.specs.Going.{ArePublished, TellOneOf, published, since_after, totals_of}
+use Rattle.thread_queues.specs.Going.{TellSomeOf}
+use Rattle.thread_queues.specs.Queues.{posted}
+use Rattle.thread_queues.specs.Totals.{Totals}
 use Rattle.heap_engine.specs.Acted.{IsActed}
 use Rattle.heap_engine.specs.CarriedOut.{IsCarriedOut}
 use Rattle.heap_engine.specs.Sound.{view_of}
@@ -55,8 +57,22 @@ pub record FindsAll (old new : Parts) : Type 0 where
 region_counted : (s : Parts) → HasRegion s → HasRegion (counted s)
 region_counted s region = record { opened = region.opened; placed = region.placed; started = region.started }
 
+-- and the parts stay tied when totals are published
+tied_published : (s : Parts) → AreTied s → AreTied (published s)
+tied_published s tied = record {
+  slots = tied.slots;
+  weak = tied.weak;
+  stack = tied.stack;
+  registered = tied.registered;
+  few = tied.few;
+  sweep = tied.sweep;
+  marks = tied.marks;
+  traced = tied.traced;
+  made = tied.made;
+}
+
 module _
-    (d : given.Over) (c : goal.After-count d)
+    (d : given.Over) (c : goal.After-count_command d)
     (is : IsCarriedOut c.args.command.now (quiet c.self.inside.parts) c.run.new.parts c.begin.new.self c.run.new.outcome) where
   -- the heap isn't closed
   pub opened : c.self.inside.closed ≡ false
@@ -141,12 +157,22 @@ module _
       (piece_of c.self.inside.parts.region c.run.new.parts.region) (c.run.new.parts.region.told ++ outcome_lines c.run.new.outcome c.run.new.parts.cycle.ran)
       (answered (state_of c.run.new.parts)) step c.self.invariant.counted)
 
-  -- what threads were handed is of a state since they went
-  pub totals : c.run.new.parts.region.awaiting ≡ true → AreOfOneOf c.after.result.value c.run.new.parts.region.totals
-  totals awaits =
-      subst (λ (since : List State). AreOfOneOf since c.run.new.parts.region.totals) (sym c.after.ensures)
-      (totals_after c.args.command.now (state_of c.self.inside.parts) c.self.inside.since.value (record c.self.inside.parts.region { told = [] })
-      c.run.new.parts.region is.region.handed c.self.invariant.totals awaits)
+  -- what was published until now are the totals of the states since threads went
+  pub posted_now : posted c.run.new.parts.region.since c.run.new.parts.region.last ≡ map totals_of c.after.result.value
+  posted_now =
+      posted_after c.args.command.now (state_of c.self.inside.parts) c.self.inside.since.value (record c.self.inside.parts.region { told = [] })
+      c.run.new.parts.region is.region.board (record { last = c.self.invariant.board.last; before = c.self.invariant.board.before })
+      ∙ ap (map totals_of) (sym c.after.ensures)
+
+  -- those of the state that is to be published are later
+  pub later : c.run.new.parts.region.last.ordinal < c.count_command.new.self.rest.ordinal
+  later =
+      omega (
+        arith,
+        ap (λ (t : Totals). t.ordinal)
+            (last_stays c.args.command.now (record c.self.inside.parts.region { told = [] }) c.run.new.parts.region is.region.board ∙ c.self.invariant.board.last),
+        ordinal,
+      )
 
   -- the lines of the outcome are those of the command
   lines :
@@ -220,45 +246,40 @@ module _
       ≡ entries_of c.self.inside.parts.region.taken ++ entries_of (drop (length c.history.result.value) c.run.new.parts.region.taken)
   history_after = rw before_is (made_behind c.self.inside.parts.region.taken c.run.new.parts.region.taken is.region.begins)
 
-  -- a join tells totals of one state, and none falls
-  joins : c.args.command.now ≡ C.ThreadsJoin → AreOfOneOf c.self.inside.since.value c.self.inside.parts.region.totals
-  joins join =
-      c.self.invariant.totals (subst (IsInSection c.self.inside.parts.region.awaiting) join (rw (← c.self.view_is) at c.requires.section))
+  -- a join tells totals of states since threads went, and none falls
+  joins : c.args.command.now ≡ C.ThreadsJoin → map totals_of c.after.result.value ≡ map totals_of (c.self.inside.since.value ++ state_of c.self.inside.parts ∷ [])
+  joins join = ap (map totals_of) (c.after.ensures ∙ ap (λ (k : Command). since_after k (state_of c.self.inside.parts) c.self.inside.since.value) join)
 
   join_tells : c.args.command.now ≡ C.ThreadsJoin
       → TellOneOf c.after.result.value (c.run.new.parts.region.told ++ outcome_lines c.run.new.outcome c.count_command.new.self.ran)
   join_tells join =
-      subst (λ (since : List State). TellOneOf since (c.run.new.parts.region.told ++ outcome_lines c.run.new.outcome c.count_command.new.self.ran))
-      (sym (c.after.ensures ∙ ap (λ (k : Command). since_after k (state_of c.self.inside.parts) c.self.inside.since.value) join))
-      (tell_one c.run.new.parts.region.told c.run.new.outcome c.count_command.new.self.ran c.self.inside.parts.region.totals (is.region.of_join join) is.region.totals
-      c.self.inside.since.value (state_of c.self.inside.parts) (joins join))
+      tell_one c.run.new.parts.region.told c.run.new.outcome c.count_command.new.self.ran (is.region.of_join join) c.after.result.value
+      (subst (λ (ts : List Totals). TellSomeOf ts c.run.new.parts.region.told)
+      (posted_is c.self.inside.since.value (state_of c.self.inside.parts) c.self.inside.parts.region c.self.invariant.board ∙ sym (joins join)) is.region.totals)
 
-  -- so many lines has the outcome
-  all_counted : c.count.result ≡ length (outcome_lines c.run.new.outcome c.count_command.new.self.ran)
-  all_counted = c.count.ensures ∙ ap (λ (r : List (ℕ × ℕ)). length (outcome_lines c.run.new.outcome r)) c.ran.ensures
-
-  pub acted :
-      IsActed (view_of c.self.inside) (view_of (record c.self.inside {
-        parts = record c.run.new.parts { cycle = c.count_command.new.self };
+  acted_counted : (count : ℕ)
+      → count ≡ length c.run.new.parts.region.told + length (outcome_lines c.run.new.outcome c.count_command.new.self.ran)
+      → IsActed (view_of c.self.inside) (view_of (record c.self.inside {
+        parts = published (record c.run.new.parts { cycle = c.count_command.new.self });
         before = c.history.result;
         since = c.after.result;
         outcome = c.run.new.outcome;
-      })) c.args.command.now (c.told_count.result + c.count.result)
-  acted = record {
+      })) c.args.command.now count
+  acted_counted count lines_are = record {
     step = rw (before_is, c.count_command.ensures) step;
     count = omega (
       arith,
-      c.told_count.ensures.count,
-      all_counted,
+      lines_are,
       length-append c.run.new.parts.region.told (outcome_lines c.run.new.outcome c.count_command.new.self.ran),
     );
     ordinal = ordinal;
     history = history_after;
     out = is.region.none_out;
     since = c.after.ensures;
+    published = refl;
     totals = join_tells;
     fall = λ join.
-        never_fall c.run.new.parts.region.told c.run.new.outcome c.count_command.new.self.ran c.self.inside.parts.region.totals (is.region.of_join join) is.region.totals;
+        never_fall c.run.new.parts.region.told c.run.new.outcome c.count_command.new.self.ran (is.region.of_join join) is.region.fall;
     setup = ap setup_of parts_are ∙ is.frame.setup;
     closed = opened;
     walked = walks;
@@ -269,3 +290,55 @@ module _
     took = λ n step marking some. is.took n step (some_run c.self.inside.parts (c.self.invariant.manned opened) marking some);
     done = λ t told. (let found = traces t told in record { alone = found.alone; beside = found.beside });
   }
+
+-- ---- the totals are published
+
+module _
+    (d : given.Over) (c : goal.After-count_command d)
+    (is : IsCarriedOut c.args.command.now (quiet c.self.inside.parts) c.run.new.parts c.begin.new.self c.run.new.outcome) (now : Parts)
+    (parts_now : now ≡ published (record c.run.new.parts { cycle = c.count_command.new.self })) where
+  pub ready_now : IsReady now
+  ready_now =
+      let was = ready d c is in
+      subst IsReady (sym parts_now)
+      (record { valid = was.valid; called = was.called; tied = tied_published (record c.run.new.parts { cycle = c.count_command.new.self }) was.tied; most = was.most })
+
+  pub manned_now : IsManned now
+  manned_now = subst IsManned (sym parts_now) (manned d c is)
+
+  pub region_now : HasRegion now
+  region_now =
+      let was = region d c is in
+      subst HasRegion (sym parts_now) (record { opened = was.opened; placed = was.placed; started = was.started })
+
+  pub counts_now : IsCounted (state_of now)
+  counts_now = subst (λ (p : Parts). IsCounted (state_of p)) (sym parts_now) (counts d c is)
+
+  pub board_now : ArePublished c.after.result.value (state_of now) now.region
+  board_now =
+      subst (λ (p : Parts). ArePublished c.after.result.value (state_of p) p.region) (sym parts_now) (record { last = refl; before = posted_now d c is })
+
+  pub told_now : IsOutcome c.run.new.outcome now.cycle.ran
+  told_now = subst (λ (p : Parts). IsOutcome c.run.new.outcome p.cycle.ran) (sym parts_now) (told d c is)
+
+  pub same_now : now.region.told ≡ c.run.new.parts.region.told
+  same_now = ap (λ (p : Parts). p.region.told) parts_now
+
+  pub none_out_now : now.region.awaiting ≡ false → now.region.out ≡ []
+  none_out_now = subst (λ (p : Parts). p.region.awaiting ≡ false → p.region.out ≡ []) (sym parts_now) is.region.none_out
+
+  pub acted : (count : ℕ) → count ≡ length now.region.told + length (outcome_lines c.run.new.outcome now.cycle.ran)
+      → IsActed (view_of c.self.inside) (view_of (record c.self.inside {
+        parts = now;
+        before = c.history.result;
+        since = c.after.result;
+        outcome = c.run.new.outcome;
+      })) c.args.command.now count
+  acted count lines_are =
+      let counted_before = lines_are ∙ ap (λ (p : Parts). length p.region.told + length (outcome_lines c.run.new.outcome p.cycle.ran)) parts_now in
+      subst (λ (p : Parts). IsActed (view_of c.self.inside) (view_of (record c.self.inside {
+        parts = p;
+        before = c.history.result;
+        since = c.after.result;
+        outcome = c.run.new.outcome;
+      })) c.args.command.now count) (sym parts_now) (acted_counted d c is count counted_before)
