@@ -106,13 +106,13 @@ impl Gate for HeldInTurn {
         match (worker, point) {
             (0, 3) => {
                 if self.begun.fetch_add(1, Ordering::SeqCst) == 4 {
-                    self.hold(&self.traced, 1);
+                    hold(&self.traced, 1, &self.given_up);
                 }
             }
             (0, 4) => {
                 self.answered.fetch_add(1, Ordering::SeqCst);
             }
-            (1, 1) => self.hold(&self.answered, 4),
+            (1, 1) => hold(&self.answered, 4, &self.given_up),
             (1, 2) => {
                 self.traced.fetch_add(1, Ordering::SeqCst);
             }
@@ -121,17 +121,15 @@ impl Gate for HeldInTurn {
     }
 }
 
-impl HeldInTurn {
-    /// Waits until the count has come so far.
-    fn hold(&self, count: &AtomicU64, least: u64) {
-        for _turn in 0..TURNS {
-            if count.load(Ordering::SeqCst) >= least {
-                return;
-            }
-            thread::yield_now();
+/// Waits until the count has come so far, or gives up.
+pub(crate) fn hold(count: &AtomicU64, least: u64, given_up: &AtomicU64) {
+    for _turn in 0..TURNS {
+        if count.load(Ordering::SeqCst) >= least {
+            return;
         }
-        self.given_up.fetch_add(1, Ordering::SeqCst);
+        thread::yield_now();
     }
+    given_up.fetch_add(1, Ordering::SeqCst);
 }
 
 /// Whether the turns were kept, and the run wrote one of the reports.

@@ -66,6 +66,18 @@ pub(crate) fn line_of<'a>(report: &'a str, start: &str, before: u32) -> &'a str 
     ""
 }
 
+/// How many lines stand before the first one that begins so; without one, more than a report has.
+pub(crate) fn place_of(report: &str, start: &str) -> u32 {
+    let mut place = 0u32;
+    for line in report.lines() {
+        if line.starts_with(start) {
+            return place;
+        }
+        place = place.saturating_add(1);
+    }
+    u32::MAX
+}
+
 /// The sum of the numbers at this place over the lines that begin so.
 fn sum_of(report: &str, start: &str, place: usize) -> u32 {
     let mut sum = 0u32;

@@ -7,8 +7,8 @@
 //! The parts, each named for what it tries. Of text: `held_text`, `adapters`, `reading`, `printing`,
 //! `pieces`, `faults` and `bytes` with `fault_cases`. Of runs: `runs`, `statuses`, `limits`, `prefixes`,
 //! `callback_calls`, `failing_devices`. Of markers: `held`, `joined`, `schedules` with the gate `drawn`,
-//! and `beside`; `lawful` says what a report beside markers may say. `rows` reads the tables of the
-//! others.
+//! and `beside`. Of the threads of a script: `threads`, `upgrades`, and `joined` too. `lawful` says what a
+//! report beside markers and threads may say. `rows` reads the tables of the others.
 //!
 //! What is proved: that the tests are safe and call only what they may.
 //!
@@ -57,3 +57,7 @@ mod runs;
 mod schedules;
 #[cfg(test)]
 mod statuses;
+#[cfg(test)]
+mod threads;
+#[cfg(test)]
+mod upgrades;

@@ -1,8 +1,8 @@
 // Runs beside 1 to 8 markers, whom a gate holds for drawn times, as it holds the owner.
 
-use super::drawn::Drawn;
+use super::drawn::{Drawn, Settled, first_unsettled};
 use super::lawful::{Trial, is_lawful};
-use super::runs::{STEADY, run_of, writes_one_of};
+use super::runs::{STEADY, run_of};
 use std::alloc::Global;
 use std::sync::{Arc, Wait};
 use std::thread;
@@ -103,27 +103,11 @@ gc finish precise\nget 0 1 7\nread 1 8\ndrop 7\nsweep all\ngc now precise\nget 0
     end: "swept to 4\nend objects 2 used 8 pages 1\n",
 };
 
-/// A script, with the words of its run, that writes the same whatever its markers do.
-struct Settled {
-    words: &'static str,
-    script: &'static [u8],
-    report: &'static str,
-}
-
 /// The script ends while markers are at work.
 const UNFINISHED: Settled = Settled {
     words: "--pages 4 --page-words 256 --markers 4",
     script: b"oilpan 1\ntype S\nnew 0 0\nnew 1 0\nset 0 0 1\ngc start\ndrop 1\n",
     report: "type 0\nnode 0 at 0\nnode 1 at 3\nok\nstarted\nok\nend objects 2 used 6 pages 1\n",
-};
-
-/// Two threads upgrade one weak slot of the region, and clear the slots that they made.
-const UPGRADED: Settled = Settled {
-    words: "--pages 4 --page-words 256 --markers 4 --summary",
-    script: b"oilpan 1\ntype S\nnew 0 0\nexport 0 0\nat 1 weaken 0\nthreads go\nthreads join\n\
-at 1 upgrade 0 1\nat 1 clear 1\nat 2 upgrade 0 2\nat 2 clear 2\ndrop 0\nthreads go\n\
-gc now precise\nthreads join\ngc now precise\nsweep all\n",
-    report: "summary commands 15 cycles 2 objects 0 used 0 finalised 1 full 0\n",
 };
 
 /// Whether the run of this seed is done, and its report is lawful.
@@ -222,46 +206,7 @@ fn two_heaps_have_markers_at_once(rt: HostRuntime) {
     assert_eq!(rt; first_wrong_of_two(&rt, rt.alloc()), None);
 }
 
-/// Whether the run of this seed writes what the script has to.
-fn is_settled<R: Threads + Wait + Copy + Send + 'static>(
-    rt: &R,
-    alloc: Global,
-    seed: u32,
-    settled: &Settled,
-) -> bool {
-    match Arc::new(alloc, Drawn::new(u64::from(seed))) {
-        Ok(gate) => writes_one_of(
-            rt,
-            alloc,
-            settled.words,
-            settled.script,
-            &gate,
-            settled.report,
-        ),
-        Err(_) => false,
-    }
-}
-
-/// The first seed whose run writes something else.
-fn first_unsettled<R: Threads + Wait + Copy + Send + 'static>(
-    rt: &R,
-    alloc: Global,
-    settled: &Settled,
-) -> Option<u32> {
-    for seed in 0..RUNS {
-        if !is_settled(rt, alloc, seed, settled) {
-            return Some(seed);
-        }
-    }
-    None
-}
-
 #[test]
 fn script_ends_while_markers_are_at_work(rt: HostRuntime) {
-    assert_eq!(rt; first_unsettled(&rt, rt.alloc(), &UNFINISHED), None);
-}
-
-#[test]
-fn slot_upgraded_by_two_threads_on_four_markers_has_one_summary(rt: HostRuntime) {
-    assert_eq!(rt; first_unsettled(&rt, rt.alloc(), &UPGRADED), None);
+    assert_eq!(rt; first_unsettled(&rt, rt.alloc(), &UNFINISHED, RUNS), None);
 }
