@@ -52,6 +52,7 @@ def take_other(heap, entry):
 def take_others(run):
     """Takes the entries of threads before the owner's next one, and gives that, or nothing where it isn't told."""
     if run.taken == len(run.outcome.pieces):
+        run.others_come()
         return None
     *others, own = run.outcome.pieces[run.taken]
     run.taken += 1

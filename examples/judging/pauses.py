@@ -10,7 +10,7 @@ from judging.history import check_own, take_others
 from judging.reports import Undecided, require
 
 # How many sets are looked at for one pause.
-MOST_SETS = 2000
+MOST_SETS = 10_000
 
 
 def begin(heap):

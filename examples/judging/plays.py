@@ -23,6 +23,15 @@ class Play:
         end_pause(self.heap, bounds(self.heap, want, False)[self.keeps_most])
         self.pauses += 1
 
+    def threads_come(self):
+        """The threads do their orders one after the other, before the owner goes on: one way of many."""
+        for name, *numbers in [order for j in self.heap.running for order in self.heap.queues[j]]:
+            if numbers:
+                do_order(self.heap, name, *map(int, numbers))
+
+    def others_come(self, is_join=False):
+        """No order is left."""
+
     def do(self, name, *numbers):
         """Does a command, and says whether it was refused."""
         self.at += 1
@@ -57,15 +66,12 @@ def collect(play, want):
 
 
 def go(play):
-    """The threads do their orders one after the other, as FORMATS says."""
     threads_go(play)
-    orders = [order for j in play.heap.running for order in play.heap.queues[j]]
-    for name, *numbers in orders:
-        if numbers:
-            do_order(play.heap, name, *map(int, numbers))
+    play.threads_come()
 
 
 def join(play):
+    play.others_come(is_join=True)
     play.heap.queues.update({j: [] for j in play.heap.running})
     play.heap.running = []
 

@@ -53,6 +53,9 @@ class Run:
         """Whether the command, which may, answers that memory is wanting."""
         return self.outcome.line == "memory" and not self.ample
 
+    def others_come(self):
+        """Where entries aren't told no thread runs."""
+
     def chosen(self, sets):
         require(sets, "no closed set with so many nodes goes with what is told of the dead")
         self.counts.append(len(sets))

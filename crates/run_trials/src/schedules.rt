@@ -1,8 +1,9 @@
 // Runs beside 1 to 8 markers, whom a gate holds for drawn times, as it holds the owner.
 
-use super::drawn::{Drawn, Settled, first_unsettled};
+use super::delays::Delays;
 use super::lawful::{Trial, is_lawful};
 use super::runs::{STEADY, run_of};
+use super::settled::{Settled, first_unsettled};
 use std::alloc::Global;
 use std::sync::{Arc, Wait};
 use std::thread;
@@ -118,7 +119,7 @@ fn is_right<R: Threads + Wait + Copy + Send + 'static>(
     seed: u32,
     trial: &Trial,
 ) -> bool {
-    match Arc::new(alloc, Drawn::new(u64::from(seed))) {
+    match Delays::shared(alloc, u64::from(seed)) {
         Ok(gate) => is_lawful_behind(rt, alloc, words, trial, &gate),
         Err(_) => false,
     }
@@ -129,7 +130,7 @@ fn is_lawful_behind<R: Threads + Wait + Copy + Send + 'static>(
     alloc: Global,
     words: &str,
     trial: &Trial,
-    gate: &Arc<Drawn>,
+    gate: &Arc<Delays>,
 ) -> bool {
     match run_of(alloc, words, trial.script.as_bytes(), STEADY) {
         Ok(mut run) => is_lawful(trial, run.report_behind(rt, alloc, gate)),

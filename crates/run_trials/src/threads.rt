@@ -2,7 +2,7 @@
 // and a crowd of eight threads and eight markers.
 
 use super::beside::hold;
-use super::drawn::Drawn;
+use super::delays::Delays;
 use super::lawful::{Trial, count_of, is_lawful};
 use super::runs::{STEADY, run_of, writes_one_of};
 use script_run::{FreeGate, Gate};
@@ -171,7 +171,7 @@ fn is_of_the_crowd(report: &str) -> bool {
 
 /// Whether the run of the crowd with this seed is done and lawful.
 fn is_right<R: Threads + Wait + Copy + Send + 'static>(rt: &R, alloc: Global, seed: u32) -> bool {
-    let Ok(gate) = Arc::new(alloc, Drawn::new(u64::from(seed))) else {
+    let Ok(gate) = Delays::shared(alloc, u64::from(seed)) else {
         return false;
     };
     let words = "--pages 4 --page-words 256 --markers 8";

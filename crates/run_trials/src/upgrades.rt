@@ -1,8 +1,9 @@
 // Two threads upgrade one weak slot of the region, while the owner collects.
 
-use super::drawn::{Drawn, Settled, first_unsettled};
+use super::delays::Delays;
 use super::lawful::{count_of, line_of, place_of};
 use super::runs::{STEADY, run_of};
+use super::settled::{Settled, first_unsettled};
 use std::alloc::Global;
 use std::sync::{Arc, Wait};
 use std::thread::Threads;
@@ -118,7 +119,7 @@ fn is_upgraded_before(report: &str, pause: &str) -> bool {
 
 /// Whether the run of this seed has a lawful report.
 fn is_right<R: Threads + Wait + Copy + Send + 'static>(rt: &R, alloc: Global, seed: u32) -> bool {
-    let Ok(gate) = Arc::new(alloc, Drawn::new(u64::from(seed))) else {
+    let Ok(gate) = Delays::shared(alloc, u64::from(seed)) else {
         return false;
     };
     match run_of(
