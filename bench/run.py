@@ -67,9 +67,12 @@ WIDEST_LINES = 510_000
 LONG_LINE = "import 0 0"
 # For a line of each kind, read, run and told.
 LINE_BARS = {
-    "drop 0": 330, "set 0 0 0": 430, "get 0 0 2": 430, "put 0 1 5": 430, "word 0 1": 430, "copy 0 2": 430,
-    "weak 0 0": 430, "read 0 2": 430, "export 0 0": 980, "import 0 0": 1010,
+    "drop 0": 330, "set 0 0 0": 430, "get 0 0 2": 430, "put 0 1 5": 430, "word 0 1": 440, "copy 0 2": 430,
+    "weak 0 0": 430, "read 0 2": 430, "export 0 0": 1_000, "import 0 0": 1_035,
 }
+# For an order of a thread with all its lines.
+ORDER = "at 1 copy 0 1"
+ORDER_BAR = 2_000
 SMALL_COLLECTION_BAR = 12_700
 
 
@@ -317,6 +320,9 @@ class Bench:
             some, twice = (self.instructions(loads.with_words(line, n * self.count)) for n in (1, 2))
             name = f"line_{line.split()[0]}_instructions"
             self.figures.tell(name, (twice - some) / self.count, bar)
+        orders = (loads.with_words(ORDER, n * self.count).then("threads go", "threads join") for n in (1, 2))
+        some, twice = (self.instructions(load) for load in orders)
+        self.figures.tell("order_instructions", (twice - some) / self.count, ORDER_BAR)
         count = self.count // 100
         some, twice = (self.instructions(loads.with_words(f"{COLLECTION}\n{SWEEP}", n * count)) for n in (1, 2))
         self.figures.tell("small_collection_instructions", (twice - some) / count, SMALL_COLLECTION_BAR)
