@@ -104,15 +104,16 @@ def told(run, fault):
     return f"command {run.at + 1}, {name} {numbers}: {fault}"
 
 
-def judge(options, types, commands, text, ample=False):
-    """Raises Unlawful where the report isn't lawful. Where memory is ample, no want of it explains anything."""
+def judge(options, types, commands, text, ample=False, kind=Run):
+    """The run, of this kind, that the report is of; raises Unlawful where it isn't lawful. Where memory is ample,
+    no want of it explains anything."""
     outcomes, end = read_report(text, types, commands)
     choices, furthest = [], (-1, "")
     for _ in range(MOST_WAYS):
-        run = Run(options, types, commands, outcomes, ample, choices)
+        run = kind(options, types, commands, outcomes, ample, choices)
         try:
             run.judge(end)
-            return
+            return run
         except Unlawful as fault:
             furthest = max(furthest, (run.at, told(run, fault)))
         if is_last(run):
