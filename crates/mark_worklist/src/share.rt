@@ -14,7 +14,7 @@ use thiserror::Error;
 const MOST_ITEMS: u64 = 1 << 60;
 
 /// So many items a steal moves at most.
-const MOST_MOVED: u64 = 32;
+const MOST_MOVED: u64 = 512;
 
 /// The item of a push that was refused, for want of memory or because too many came onto the list.
 #[derive(Debug, Drop, Error, PartialEq)]

@@ -9,6 +9,6 @@ returns-then-self c =
     let e = c.move_some.new.self in
     let own : c.self.inside.own ≡ c.args.self.now.own = search rules in
     record {
-      moved = moved-from c.args.self.now _ c.args.i 32 x e c.requires.within (search rules) (search rules)
-          (subst (λ o. Moved 32 x o e c.move_some.new.own) own c.move_some.ensures);
+      moved = moved-from c.args.self.now _ c.args.i 512 x e c.requires.within (search rules) (search rules)
+          (subst (λ o. Moved 512 x o e c.move_some.new.own) own c.move_some.ensures);
     }
