@@ -8,6 +8,7 @@ bar.
 import json
 import os
 import re
+import resource
 import shutil
 import subprocess
 import sys
@@ -74,6 +75,11 @@ LINE_BARS = {
 ORDER = "at 1 copy 0 1"
 ORDER_BAR = 2_000
 SMALL_COLLECTION_BAR = 12_700
+# A run wants less than 2 GiB; what it wants is known to 64 KiB.
+ROOM = 1 << 31
+ROOM_STEP = 1 << 16
+PEAK_BAR = 3.7
+LINE_BYTES_BAR = 35
 
 
 # Those that are run with n objects and with 2n, and of these those that are run with 0 too: what stands
@@ -195,6 +201,27 @@ class Script:
                 stdin=script, stdout=subprocess.DEVNULL, stderr=subprocess.PIPE, check=True,
             ).stderr.decode(errors="replace")
         return int(re.search(r"Collected : (\d+)", told).group(1))
+
+    def runs_within(self, room):
+        """Whether a run comes to its end with so many bytes of addresses."""
+        limit = (room, room)
+        with open(self.path, "rb") as script:
+            ran = subprocess.run(
+                self.command, stdin=script, stdout=subprocess.DEVNULL, stderr=subprocess.DEVNULL, check=False,
+                preexec_fn=lambda: resource.setrlimit(resource.RLIMIT_AS, limit),
+            )
+        return ran.returncode == 0
+
+    def room(self):
+        """With how many bytes of addresses, at least, a run comes to its end, to 64 KB."""
+        wanting, enough = 0, ROOM
+        while enough - wanting > ROOM_STEP:
+            middle = (wanting + enough) // 2
+            if self.runs_within(middle):
+                enough = middle
+            else:
+                wanting = middle
+        return enough
 
 
 class Bench:
@@ -326,6 +353,14 @@ class Bench:
         count = self.count // 100
         some, twice = (self.instructions(loads.with_words(f"{COLLECTION}\n{SWEEP}", n * count)) for n in (1, 2))
         self.figures.tell("small_collection_instructions", (twice - some) / count, SMALL_COLLECTION_BAR)
+
+    def peak(self):
+        """What a run wants of memory, over the words of its heap, and for each of its lines."""
+        lines = 20 * self.count - 10
+        large, small = (Script(self.folder, loads.filling(count, lines)) for count in (lines, lines // 2))
+        most, less = large.room(), small.room()
+        self.figures.tell("peak_over_words", most / (8 * large.load.heap_words()), PEAK_BAR)
+        self.figures.tell("peak_bytes_per_line", (most - less) / (lines - lines // 2), LINE_BYTES_BAR)
 
     def collections(self):
         """What a collection costs for each live object."""
@@ -469,6 +504,7 @@ def main():
         bench = Bench(folder, scale)
         bench.times()
         bench.beside()
+        bench.peak()
         if shutil.which("valgrind"):
             bench.growth()
             bench.lines()
