@@ -31,6 +31,8 @@ mod Condemned
 mod Prefinalising
 mod AccessLaws
 mod HandleLaws
+mod LastLines
+mod WeakLives
 mod StepFrames
 mod NewLaws
 mod FrameLaws

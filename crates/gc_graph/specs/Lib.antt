@@ -57,6 +57,7 @@ pub mod TotalsLaw
 pub mod OrderLaw
 pub mod OwnEntryLaw
 pub mod HeldLaw
+pub mod HandleLaw
 pub mod SlotsLaw
 pub mod NumbersLaw
 pub mod SummaryLaw

@@ -27,6 +27,7 @@ mod kind;
 mod laws;
 mod laws_of_accesses;
 mod laws_of_cycles;
+mod laws_of_handles;
 mod laws_of_lives;
 mod laws_of_marking;
 mod laws_of_prefinalizers;
@@ -63,6 +64,7 @@ pub use laws_of_cycles::{
     pauses_count_nodes, pauses_count_once, steps_count_their_lines, steps_tell_what_is_left,
     weak_clearing_spares_the_live,
 };
+pub use laws_of_handles::{last_lines_mean, slots_name_the_live, weak_slots_tell_lives};
 pub use laws_of_lives::{lives_end_once, nodes_stay_put};
 pub use laws_of_marking::{kept_is_accounted_for, precise_collection_is_exact};
 pub use laws_of_prefinalizers::{
