@@ -21,3 +21,4 @@ pub mod UnderWaySteps
 pub mod StrongWords
 pub mod TracedFields
 pub mod Onward
+pub mod Tracers

@@ -1,8 +1,7 @@
 -- One stage of the way to the fixpoint, what holds at each, and what a step of the way may change.
-use Rattle.std.specs.Prelude.{◌≡◌, ◌⊎◌, ℕ, ◌+◌, ◌-◌, ◌*◌, ◌^◌, ◌<◌, ◌≤◌, Bool, true, false, not, List, [], ◌∷◌, ◌++◌, length, Option, Some, None, Contains, count_by}
+use Rattle.std.specs.Prelude.{◌≡◌, ◌⊎◌, ℕ, ◌+◌, ◌*◌, ◌^◌, ◌<◌, ◌≤◌, Bool, true, false, not, List, [], ◌∷◌, ◌++◌, length, Option, Some, None, Contains, count_by}
 use Rattle.std.specs.List.{range_with_len}
 use Rattle.gc_graph.specs.State.{ObjectType}
-use Rattle.object_headers.specs.Offsets.{first_field}
 use Rattle.mark_worklist.specs.Refusals.{Refusals, TellsRefused, refusals_of}
 use Rattle.mark_worklist.specs.declared.marking.Marking.{Marking}
 use Rattle.marker_core.specs.Bodies.{IsPlace, holds}

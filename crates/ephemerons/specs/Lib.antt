@@ -2,6 +2,8 @@ pub mod Traces
 pub mod Fixpoint
 pub mod LookedAt
 pub mod UnderWay
+-- What the private functions of the fixpoint say.
+pub mod Tracers
 -- Lemmas that the crates above cite too, since a crate's proofs/ can't be cited from another.
 pub mod ListedMarks
 pub mod Accounted

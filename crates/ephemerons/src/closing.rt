@@ -9,13 +9,12 @@ ghost use Rattle.pair_notes.specs.declared.notes.Note.{Note};
 ghost use Rattle.pair_notes.specs.BodyGraph.{PlacesDiffer};
 ghost use Rattle.pair_notes.specs.Marking.{MarksOn, GrowsWithin, IsOver, traced_count};
 ghost use Rattle.pair_notes.specs.Notes.{IsNote, IsNotedIn, group_at, refusals_in};
-ghost use Rattle.ephemerons.specs.Fixpoint.{IsGround, IsAccounted, NoteIsSettled, IsUnrefused};
-ghost use Rattle.ephemerons.specs.Fixpoint.{Works, mode_of, stage, weight};
-ghost use Rattle.ephemerons.specs.LookedAt.{AreHoldersMarked, LooksWithin, LooksOnward};
+ghost use Rattle.ephemerons.specs.Fixpoint.{IsAccounted, NoteIsSettled, IsUnrefused};
+ghost use Rattle.ephemerons.specs.Fixpoint.{mode_of, weight};
+ghost use Rattle.ephemerons.specs.LookedAt.{AreHoldersMarked, LooksWithin};
+ghost use Rattle.ephemerons.specs.Tracers.{IsReady, Keeps, Advances, GoesOnward, stage_of};
 
-use crate::draining::{drain, drain_if_pairless};
-use crate::settling::settle_notes;
-use crate::walking::walk_heap;
+use crate::tracer::Tracer;
 use mark_worklist::Marking;
 use page_words::{Bodywords, MutatorSeat};
 use pair_notes::Pairs;
@@ -66,12 +65,16 @@ pub fn fixpoint<B: Bodywords>(
 {
     seat.bodies_lie_apart();
     begin_indexes(groups);
-    let mut traced = 0;
-    settle_all(space, types, seat, marking, groups, &mut traced);
-    if walk || is_refused(marking, groups) {
-        walk_heap(space, types, seat, marking, groups, &mut traced);
-    }
-    traced
+    let mut tracer = Tracer {
+        space,
+        types,
+        seat,
+        marking,
+        groups,
+        traced: 0,
+    };
+    tracer.close(walk);
+    tracer.traced
 }
 
 /// Empties the index of each group.
@@ -83,74 +86,75 @@ fn begin_indexes(groups: &mut [Pairs])
     }
 }
 
-/// Drains the list and settles the notes, until neither asks for more.
-fn settle_all<B: Bodywords>(
-    space: &B,
-    types: &TypeTable,
-    seat: &mut MutatorSeat,
-    marking: &mut Marking,
-    groups: &mut [Pairs],
-    traced: &mut u32,
-)
-    requires heap { seat.old.heap ≡ B.heap space.now }
-    requires ground { IsGround types.now (stage seat.old marking.old groups.old traced.old) }
-    ensures ground { IsGround types.now (stage seat.new marking.new groups.new traced.new) }
-    ensures works { Works types.now None
-        (stage seat.old marking.old groups.old traced.old)
-        (stage seat.new marking.new groups.new traced.new) }
-    ensures looked { LooksOnward types.now
-        (stage seat.old marking.old groups.old traced.old)
-        (stage seat.new marking.new groups.new traced.new) }
-    ensures list { marking.new.list.items ≡ [] }
-    ensures over { IsUnrefused marking.new.overflow groups.new
-        → IsAccounted types.now None seat.old marking.old.list.items groups.old
-        → IsOver types.now seat.new }
-{
-    drain_if_pairless(space, types, seat, marking, groups, traced);
-    while turn(space, types, seat, marking, groups, traced) {}
-    seat.bodies_lie_apart();
-}
-
-/// Drains the list, and then settles each note. True where a note asked for work.
-fn turn<B: Bodywords>(
-    space: &B,
-    types: &TypeTable,
-    seat: &mut MutatorSeat,
-    marking: &mut Marking,
-    groups: &mut [Pairs],
-    traced: &mut u32,
-) -> bool
-    requires heap { seat.old.heap ≡ B.heap space.now }
-    requires ground { IsGround types.now (stage seat.old marking.old groups.old traced.old) }
-    ensures ground { IsGround types.now (stage seat.new marking.new groups.new traced.new) }
-    ensures works { Works types.now None
-        (stage seat.old marking.old groups.old traced.old)
-        (stage seat.new marking.new groups.new traced.new) }
-    ensures looked { LooksOnward types.now
-        (stage seat.old marking.old groups.old traced.old)
-        (stage seat.new marking.new groups.new traced.new) }
-    ensures list { result ≡ false → marking.new.list.items ≡ [] }
-    ensures settled { result ≡ false → (note : Note) → IsNotedIn groups.new note
-        → NoteIsSettled types.now seat.new note }
-    ensures found { result ≡ true → weight (stage seat.new marking.new groups.new traced.new)
-        < weight (stage seat.old marking.old groups.old traced.old) }
-{
-    drain(space, types, seat, marking, groups, traced);
-    settle_notes(space, types, seat, marking, groups, traced)
-}
-
-/// Whether a push or a note was refused.
-fn is_refused(marking: &Marking, groups: &[Pairs]) -> bool
-    ensures fine { result ≡ false → IsUnrefused marking.now.overflow groups.now }
-    ensures refused { IsUnrefused marking.now.overflow groups.now → result ≡ false }
-{
-    if marking.overflow {
-        return true;
-    }
-    for group in groups {
-        if group.overflow() {
-            return true;
+impl<'a, 't, B: Bodywords> Tracer<'a, 't, B> {
+    /// Goes on until nothing asks for more.
+    fn close(&mut self, walk: bool)
+        requires ready { IsReady B.heap self.old }
+        ensures keeps { Keeps B.heap self.old self.new }
+        ensures works { Advances self.old self.new }
+        ensures list { self.new.marking.now.list.items ≡ [] }
+        ensures over { (walk ≡ true)
+            ⊎ IsAccounted self.old.types.now None self.old.seat.now
+            self.old.marking.now.list.items self.old.groups.now
+            → IsOver self.old.types.now self.new.seat.now }
+        ensures looked { walk ≡ false
+            → IsUnrefused self.new.marking.now.overflow self.new.groups.now
+            → GoesOnward self.old self.new }
+    {
+        self.settle_all();
+        if walk || self.is_refused() {
+            self.walk_heap();
         }
     }
-    false
+
+    /// Drains the list and settles the notes, until neither asks for more.
+    fn settle_all(&mut self)
+        requires ready { IsReady B.heap self.old }
+        ensures keeps { Keeps B.heap self.old self.new }
+        ensures works { Advances self.old self.new }
+        ensures looked { GoesOnward self.old self.new }
+        ensures list { self.new.marking.now.list.items ≡ [] }
+        ensures over { IsUnrefused self.new.marking.now.overflow self.new.groups.now
+            → IsAccounted self.old.types.now None self.old.seat.now
+            self.old.marking.now.list.items self.old.groups.now
+            → IsOver self.old.types.now self.new.seat.now }
+    {
+        self.drain_if_pairless();
+        while self.turn() {}
+        self.seat.bodies_lie_apart();
+    }
+
+    /// Drains the list, and then settles each note. True where a note asked for work.
+    fn turn(&mut self) -> bool
+        requires ready { IsReady B.heap self.old }
+        ensures keeps { Keeps B.heap self.old self.new }
+        ensures works { Advances self.old self.new }
+        ensures looked { GoesOnward self.old self.new }
+        ensures list { result ≡ false → self.new.marking.now.list.items ≡ [] }
+        ensures settled { result ≡ false → (note : Note) → IsNotedIn self.new.groups.now note
+            → NoteIsSettled self.old.types.now self.new.seat.now note }
+        ensures found { result ≡ true → weight (stage_of self.new) < weight (stage_of self.old) }
+    {
+        self.drain();
+        self.settle_notes()
+    }
+
+    /// Whether a push or a note was refused.
+    fn is_refused(&self) -> bool
+        ensures fine { result ≡ false
+            → IsUnrefused self.now.marking.now.overflow self.now.groups.now }
+        ensures refused { IsUnrefused self.now.marking.now.overflow self.now.groups.now
+            → result ≡ false }
+    {
+        if self.marking.overflow {
+            return true;
+        }
+        let groups = &*self.groups;
+        for group in groups {
+            if group.overflow() {
+                return true;
+            }
+        }
+        false
+    }
 }

@@ -4,10 +4,11 @@ ghost use Rattle.std.specs.Prelude.{◌≡◌, ◌<◌, true, false, [], None};
 ghost use Rattle.pair_notes.specs.BodyGraph.{HaveNoPairs};
 ghost use Rattle.ephemerons.specs.Fixpoint.{IsGround, Works, stage, weight};
 ghost use Rattle.ephemerons.specs.LookedAt.{LooksOnward};
+ghost use Rattle.ephemerons.specs.Tracers.{IsReady, Keeps, Advances, GoesOnward, stage_of};
 
 use crate::marks::next_listed;
-use crate::settling::settle_under;
-use crate::tracing::{trace_grey, trace_pairless};
+use crate::tracer::Tracer;
+use crate::tracing::trace_pairless;
 use mark_worklist::Marking;
 use page_words::{Bodywords, MutatorSeat};
 use pair_notes::Pairs;
@@ -16,148 +17,98 @@ use type_table::TypeTable;
 /// A list is short where it has less than one object for so many notes.
 const NOTES_FOR_ONE: usize = 8;
 
-/// Traces what is listed, until the list is empty. Which way it goes is told by the list's length
-/// alone: a short list may be the head of a long chain of pairs, and there each note is settled as
-/// soon as its key is traced. After a long one the next look at all notes costs no more than the
-/// objects did, and their index isn't asked for.
-pub(crate) fn drain<B: Bodywords>(
-    space: &B,
-    types: &TypeTable,
-    seat: &mut MutatorSeat,
-    marking: &mut Marking,
-    groups: &mut [Pairs],
-    traced: &mut u32,
-)
-    requires heap { seat.old.heap ≡ B.heap space.now }
-    requires ground { IsGround types.now (stage seat.old marking.old groups.old traced.old) }
-    ensures ground { IsGround types.now (stage seat.new marking.new groups.new traced.new) }
-    ensures works { Works types.now None
-        (stage seat.old marking.old groups.old traced.old)
-        (stage seat.new marking.new groups.new traced.new) }
-    ensures looked { LooksOnward types.now
-        (stage seat.old marking.old groups.old traced.old)
-        (stage seat.new marking.new groups.new traced.new) }
-    ensures list { marking.new.list.items ≡ [] }
-{
-    if is_short(marking, groups) {
-        drain_under_keys(space, types, seat, marking, groups, traced);
-    } else {
-        drain_alone(space, types, seat, marking, groups, traced);
-    }
-}
-
-/// Whether the list is short beside the notes.
-fn is_short(marking: &Marking, groups: &[Pairs]) -> bool {
-    let mut notes = 0usize;
-    for group in groups {
-        notes = notes.saturating_add(group.count());
-    }
-    marking.list.len() < notes / NOTES_FOR_ONE
-}
-
-/// Traces what is listed, until the list is empty, and settles the notes under each key.
-fn drain_under_keys<B: Bodywords>(
-    space: &B,
-    types: &TypeTable,
-    seat: &mut MutatorSeat,
-    marking: &mut Marking,
-    groups: &mut [Pairs],
-    traced: &mut u32,
-)
-    requires heap { seat.old.heap ≡ B.heap space.now }
-    requires ground { IsGround types.now (stage seat.old marking.old groups.old traced.old) }
-    ensures ground { IsGround types.now (stage seat.new marking.new groups.new traced.new) }
-    ensures works { Works types.now None
-        (stage seat.old marking.old groups.old traced.old)
-        (stage seat.new marking.new groups.new traced.new) }
-    ensures looked { LooksOnward types.now
-        (stage seat.old marking.old groups.old traced.old)
-        (stage seat.new marking.new groups.new traced.new) }
-    ensures list { marking.new.list.items ≡ [] }
-{
-    while trace_next(space, types, seat, marking, groups, traced) {}
-}
-
-/// Takes an object from the list and traces it, if that is to be done. False where the list is
-/// empty.
-fn trace_next<B: Bodywords>(
-    space: &B,
-    types: &TypeTable,
-    seat: &mut MutatorSeat,
-    marking: &mut Marking,
-    groups: &mut [Pairs],
-    traced: &mut u32,
-) -> bool
-    requires heap { seat.old.heap ≡ B.heap space.now }
-    requires ground { IsGround types.now (stage seat.old marking.old groups.old traced.old) }
-    ensures ground { IsGround types.now (stage seat.new marking.new groups.new traced.new) }
-    ensures works { Works types.now None
-        (stage seat.old marking.old groups.old traced.old)
-        (stage seat.new marking.new groups.new traced.new) }
-    ensures looked { LooksOnward types.now
-        (stage seat.old marking.old groups.old traced.old)
-        (stage seat.new marking.new groups.new traced.new) }
-    ensures found { result ≡ true → weight (stage seat.new marking.new groups.new traced.new)
-        < weight (stage seat.old marking.old groups.old traced.old) }
-    ensures list { result ≡ false → marking.new.list.items ≡ [] }
-{
-    match marking.list.pop() {
-        Some(place) => {
-            trace_grey(space, types, seat, marking, groups, traced, place);
-            settle_under(space, types, seat, marking, groups, traced, place);
-            true
+impl<'a, 't, B: Bodywords> Tracer<'a, 't, B> {
+    /// Traces what is listed, until the list is empty. Which way it goes is told by the list's
+    /// length alone: a short list may be the head of a long chain of pairs, and there each note is
+    /// settled as soon as its key is traced. After a long one the next look at all notes costs no
+    /// more than the objects did, and their index isn't asked for.
+    pub(crate) fn drain(&mut self)
+        requires ready { IsReady B.heap self.old }
+        ensures keeps { Keeps B.heap self.old self.new }
+        ensures works { Advances self.old self.new }
+        ensures looked { GoesOnward self.old self.new }
+        ensures list { self.new.marking.now.list.items ≡ [] }
+    {
+        if self.is_short() {
+            self.drain_under_keys();
+        } else {
+            self.drain_alone();
         }
-        None => false,
     }
-}
 
-/// Traces what is listed, until the list is empty, and settles no note.
-fn drain_alone<B: Bodywords>(
-    space: &B,
-    types: &TypeTable,
-    seat: &mut MutatorSeat,
-    marking: &mut Marking,
-    groups: &mut [Pairs],
-    traced: &mut u32,
-)
-    requires heap { seat.old.heap ≡ B.heap space.now }
-    requires ground { IsGround types.now (stage seat.old marking.old groups.old traced.old) }
-    ensures ground { IsGround types.now (stage seat.new marking.new groups.new traced.new) }
-    ensures works { Works types.now None
-        (stage seat.old marking.old groups.old traced.old)
-        (stage seat.new marking.new groups.new traced.new) }
-    ensures looked { LooksOnward types.now
-        (stage seat.old marking.old groups.old traced.old)
-        (stage seat.new marking.new groups.new traced.new) }
-    ensures list { marking.new.list.items ≡ [] }
-{
-    while let Some(place) = marking.list.pop() {
-        trace_grey(space, types, seat, marking, groups, traced, place);
+    /// Whether the list is short beside the notes.
+    fn is_short(&self) -> bool {
+        let mut notes = 0usize;
+        let groups = &*self.groups;
+        for group in groups {
+            notes = notes.saturating_add(group.count());
+        }
+        self.marking.list.len() < notes / NOTES_FOR_ONE
     }
-}
 
-/// Traces what is listed, where no type has a pair. It is the way of most heaps, and neither notes
-/// nor their index are looked at for each object.
-pub(crate) fn drain_if_pairless<B: Bodywords>(
-    space: &B,
-    types: &TypeTable,
-    seat: &mut MutatorSeat,
-    marking: &mut Marking,
-    groups: &[Pairs],
-    traced: &mut u32,
-)
-    requires heap { seat.old.heap ≡ B.heap space.now }
-    requires ground { IsGround types.now (stage seat.old marking.old groups.now traced.old) }
-    ensures ground { IsGround types.now (stage seat.new marking.new groups.now traced.new) }
-    ensures works { Works types.now None
-        (stage seat.old marking.old groups.now traced.old)
-        (stage seat.new marking.new groups.now traced.new) }
-    ensures looked { LooksOnward types.now
-        (stage seat.old marking.old groups.now traced.old)
-        (stage seat.new marking.new groups.now traced.new) }
-{
-    if !has_pairs(types) {
-        drain_pairless(space, types, seat, marking, groups, traced);
+    /// Traces what is listed, until the list is empty, and settles the notes under each key.
+    fn drain_under_keys(&mut self)
+        requires ready { IsReady B.heap self.old }
+        ensures keeps { Keeps B.heap self.old self.new }
+        ensures works { Advances self.old self.new }
+        ensures looked { GoesOnward self.old self.new }
+        ensures list { self.new.marking.now.list.items ≡ [] }
+    {
+        while self.trace_next() {}
+    }
+
+    /// Takes an object from the list and traces it, if that is to be done. False where the list is
+    /// empty.
+    fn trace_next(&mut self) -> bool
+        requires ready { IsReady B.heap self.old }
+        ensures keeps { Keeps B.heap self.old self.new }
+        ensures works { Advances self.old self.new }
+        ensures looked { GoesOnward self.old self.new }
+        ensures found { result ≡ true → weight (stage_of self.new) < weight (stage_of self.old) }
+        ensures list { result ≡ false → self.new.marking.now.list.items ≡ [] }
+    {
+        match self.marking.list.pop() {
+            Some(place) => {
+                self.trace_grey(place);
+                self.settle_under(place);
+                true
+            }
+            None => false,
+        }
+    }
+
+    /// Traces what is listed, until the list is empty, and settles no note.
+    fn drain_alone(&mut self)
+        requires ready { IsReady B.heap self.old }
+        ensures keeps { Keeps B.heap self.old self.new }
+        ensures works { Advances self.old self.new }
+        ensures looked { GoesOnward self.old self.new }
+        ensures list { self.new.marking.now.list.items ≡ [] }
+    {
+        while let Some(place) = self.marking.list.pop() {
+            self.trace_grey(place);
+        }
+    }
+
+    /// Traces what is listed, where no type has a pair. It is the way of most heaps, and neither
+    /// notes nor their index are looked at for each object.
+    pub(crate) fn drain_if_pairless(&mut self)
+        requires ready { IsReady B.heap self.old }
+        ensures keeps { Keeps B.heap self.old self.new }
+        ensures works { Advances self.old self.new }
+        ensures looked { GoesOnward self.old self.new }
+    {
+        if !has_pairs(self.types) {
+            let groups = &mut *self.groups;
+            drain_pairless(
+                self.space,
+                self.types,
+                self.seat,
+                self.marking,
+                groups,
+                &mut self.traced,
+            );
+        }
     }
 }
 

@@ -7,7 +7,7 @@
 //!
 //! The parts: `mark` (one object, as a root does it), `claim` and `trace` (one object),
 //! `trace_listed` (so many objects of the list), `fixpoint` (all that is marked, until nothing asks
-//! for more).
+//! for more). What `fixpoint` is lent is one value within, `Tracer`.
 //!
 //! An object is claimed, and traced to its end before the next one is. Meanwhile it is in the step
 //! machine's hand: its strong fields and pairs are read in the order of their offsets, and what a
@@ -35,6 +35,7 @@ mod pair_fields;
 mod settling;
 mod stepping;
 mod strong_fields;
+mod tracer;
 mod tracing;
 mod walking;
 

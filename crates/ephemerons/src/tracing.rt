@@ -15,7 +15,7 @@ ghost use Rattle.pair_notes.specs.InHand.{IsTracing, IsPast, IsAtWord, IsWordTra
 ghost use Rattle.pair_notes.specs.InHand.{Claims, OnlyLooks, moved_on};
 ghost use Rattle.ephemerons.specs.Traces.{Traces};
 ghost use Rattle.ephemerons.specs.Fixpoint.{ListsMarks, with_held};
-ghost use Rattle.ephemerons.specs.Fixpoint.{IsGround, Looks, Works, stage};
+ghost use Rattle.ephemerons.specs.Fixpoint.{IsGround, Works, stage};
 ghost use Rattle.ephemerons.specs.LookedAt.{LooksOnlyAt, LooksWithin, LooksOnward};
 
 use crate::marks::{list_held, type_of};
@@ -128,43 +128,9 @@ fn trace_word<B: Bodywords>(
     }
 }
 
-/// Claims an object and traces it, where it is marked and not yet traced, and tells whether it did.
-/// `traced` counts. New notes go to the first group.
-pub(crate) fn trace_grey<B: Bodywords>(
-    space: &B,
-    types: &TypeTable,
-    seat: &mut MutatorSeat,
-    marking: &mut Marking,
-    groups: &mut [Pairs],
-    traced: &mut u32,
-    place: u32,
-) -> bool
-    requires heap { seat.old.heap ≡ B.heap space.now }
-    requires ground { IsGround types.now (stage seat.old marking.old groups.old traced.old) }
-    requires place { IsPlace seat.old.bodies place }
-    ensures ground { IsGround types.now (stage seat.new marking.new groups.new traced.new) }
-    ensures looks { Looks types.now (Some place)
-        (stage seat.old marking.old groups.old traced.old)
-        (stage seat.new marking.new groups.new traced.new) result }
-    ensures settled { holds seat.new.marked place ≡ true → holds seat.new.traced place ≡ true }
-    ensures looked { holds seat.old.marked place ≡ true → LooksOnward types.now
-        (stage seat.old marking.old groups.old traced.old)
-        (stage seat.new marking.new groups.new traced.new) }
-{
-    seat.bodies_lie_apart();
-    match claim(space, seat, place) {
-        Some(ty) => {
-            *traced += 1;
-            let own = &mut groups[0];
-            trace_fields(space, types, seat, marking, own, place, ty);
-            true
-        }
-        None => false,
-    }
-}
-
-/// The same where no type has a pair: the strong fields are all that there is to trace. Of what was
-/// marked the answer has one object, which is held back, and the others are listed.
+/// Claims an object and traces it, where it is marked and not yet traced, and where no type has a
+/// pair: the strong fields are all that there is to trace. `traced` counts. Of what was marked the
+/// answer has one object, which is held back, and the others are listed.
 #[inline(always)]
 pub(crate) fn trace_pairless<B: Bodywords>(
     space: &B,

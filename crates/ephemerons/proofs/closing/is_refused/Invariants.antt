@@ -1,6 +1,0 @@
-use Rattle.std.proofs.Common.{◌≡◌, ℕ, ◌<◌, false}
-use Rattle.pair_notes.specs.Notes.{group_at}
-use Rattle.ephemerons.proofs.closing.is_refused.Given as goal
-
-abbrev pub invariant-loop-group : goal.invariant-loop-group
-invariant-loop-group l = (i : ℕ) → i < l.group-index → (group_at l.groups i).overflow ≡ false

@@ -1,0 +1,12 @@
+use Rattle.ephemerons.specs.Fixpoint.{weight}
+use Rattle.ephemerons.specs.Tracers.{Keeps, Advances, stage_of}
+use Rattle.ephemerons.proofs.tracer.Tracer.walk_heap.Given as goal
+
+abbrev pub invariant-loop : goal.invariant-loop
+invariant-loop g l = record {
+  keeps : Keeps g.B.Bodywords.heap l.initial.self l.self;
+  works : Advances l.initial.self l.self;
+}
+
+abbrev pub decreases-loop : goal.decreases-loop
+decreases-loop g l = weight (stage_of l.self)
