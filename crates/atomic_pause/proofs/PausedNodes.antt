@@ -22,7 +22,7 @@ use Rattle.weak_clearing.specs.Space.{SpaceView, IsSpaceOf}
 use Rattle.ephemerons.specs.Fixpoint.{ListsMarks}
 use Rattle.ephemerons.specs.Marking.{traced_count}
 use Rattle.prefinalizer_effects.specs.Prepared.{setup_in_space, IsPrepared}
-use Rattle.prefinalizer_effects.specs.Nodes.{place_of, bodies_of, IsHeld, AreOfValid}
+use Rattle.prefinalizer_effects.specs.Nodes.{place_of, bodies_of, most_nodes, IsHeld, AreOfValid}
 use Rattle.prefinalizer_effects.specs.PlacesInWords.{kept_of}
 use Rattle.prefinalizer_effects.specs.Judgement.{nodes_after}
 use Rattle.prefinalizer_effects.specs.NodeBodies.{length-bodies}
@@ -99,7 +99,7 @@ types_alone setup other nodes same typed =
       kinds_at ts ty = (get_or ts ty no_type).kinds
 
 pub prepared : (space : SpaceView) (types : List ObjectType) (callbacks : List ActionKind) (nodes : List Node) (root may : ℕ → Type 0) (v y : SeatView)
-    → AreOfValid (setup_in_space space types callbacks) nodes → v.types ≡ types → IsSpaceOf space v → v.dead ≡ [] → IsHeld nodes v → length nodes ≤ 1000000
+    → AreOfValid (setup_in_space space types callbacks) nodes → v.types ≡ types → IsSpaceOf space v → v.dead ≡ [] → IsHeld nodes v → length nodes ≤ most_nodes
     → MarksReachable types root may v y → IsPrepared space types (both_cleared y) (nodes_after (kept_of (holds y.marked) nodes) nodes)
 prepared space types callbacks nodes root may v y valid known laid none held few marks =
     let setup : Setup = setup_in_space space types callbacks in
@@ -137,7 +137,7 @@ registered_after kept nodes callbacks e is = record {
 -- ---- the counts
 
 -- few enough to count
-pub few_kept : (nodes : List Node) (v y : SeatView) (count : ℕ) → IsHeld nodes v → y.bodies ≡ v.bodies → length nodes ≤ 1000000 → count ≡ marked_count y → count < 2 ^ 32
+pub few_kept : (nodes : List Node) (v y : SeatView) (count : ℕ) → IsHeld nodes v → y.bodies ≡ v.bodies → length nodes ≤ most_nodes → count ≡ marked_count y → count < 2 ^ 32
 few_kept nodes v y count held same few marked =
     let bodies : length y.bodies ≡ objects_of nodes = ap length (same ∙ held.bodies) ∙ length-bodies (place_of nodes) 0 nodes in
     omega (

@@ -16,7 +16,7 @@ ghost use Rattle.ephemerons.specs.Marking.{traced_count};
 ghost use Rattle.ephemerons.specs.UnderWay.{IsReadyToEnd};
 ghost use Rattle.ephemerons.specs.Fixpoint.{IsUnrefused};
 ghost use Rattle.ephemerons.specs.Notes.{group_at, refusals_in};
-ghost use Rattle.prefinalizer_effects.specs.Nodes.{AreOfValid, IsHeld};
+ghost use Rattle.prefinalizer_effects.specs.Nodes.{AreOfValid, IsHeld, most_nodes};
 ghost use Rattle.prefinalizer_effects.specs.PlacesInWords.{places_of_slots};
 ghost use Rattle.prefinalizer_effects.specs.Prepared.{setup_in_space, IsPrepared};
 ghost use Rattle.atomic_pause.specs.Marking.{LooksEarlyAt};
@@ -57,7 +57,7 @@ pub fn pause<R: Wait>(
         (setup_in_space parts.space.now parts.types.now (callback_kinds parts.callbacks.now))
         parts.nodes.now.value }
     requires held { IsHeld parts.nodes.now.value parts.seat.now }
-    requires few { length parts.nodes.now.value ≤ 1000000 }
+    requires few { length parts.nodes.now.value ≤ most_nodes }
     requires ready { IsReadyToEnd parts.types.now parts.seat.now parts.marking.now
         notes.old }
     requires may { (p : ℕ) → Contains parts.strong.now (Some p)

@@ -1,5 +1,5 @@
 -- A cycle begins: the parts between the start entry and the beginning of marking.
-use Rattle.std.proofs.Common.{◌≡◌, ℕ, ◌*◌, ◌≤◌, Bool, false, List, [], ◌∷◌, ◌++◌, Option, Some, None, length, refl, sym, ap, ◌∙◌, subst, arith}
+use Rattle.std.proofs.Common.{◌≡◌, ℕ, ◌*◌, ◌≤◌, Bool, false, List, [], ◌∷◌, ◌++◌, Option, Some, None, length, refl, sym, ap, ◌∙◌, subst}
 use Rattle.std.proofs.lemmas.Bool.{true≢false}
 use Rattle.gc_graph.specs.declared.phase.Phase.{Phase}
 use Rattle.gc_graph.specs.declared.phase.Phase.TheVariants.{Idle, Marking, Sweeping}
@@ -79,7 +79,6 @@ tied_region s r tied = record {
   weak = tied.weak;
   stack = tied.stack;
   registered = tied.registered;
-  few = tied.few;
   sweep = tied.sweep;
   marks = tied.marks;
   traced = tied.traced;
@@ -118,7 +117,7 @@ module _ (s : Parts) (o : ObjectsView) (r : OwnedView) (ready : IsReady s) (regi
       let marks : HasMarks s.cycle.phase limit s.cycle.rest.may o =
       subst (λ may. HasMarks s.cycle.phase limit may o) (may_calm (state_of s) (piece_of s.region r) calm)
       (looked.marks (state_of s) limit refl refl ready.tied.marks) in
-      tied_nodes s now s.cycle ready.tied (λ n. (refl, refl)) refl refl refl (omega arith) ready.tied.sweep
+      tied_nodes s now s.cycle ready.tied (λ n. (refl, refl)) refl refl ready.tied.sweep
       (subst (HasMarks s.cycle.phase limit s.cycle.rest.may) looked.others marks) ready.tied.traced ready.tied.made
 
   pub entered_ready : OrdersKeepValid → IsReady entered_parts
@@ -127,7 +126,6 @@ module _ (s : Parts) (o : ObjectsView) (r : OwnedView) (ready : IsReady s) (regi
         valid = subst (IsValid (setup_of s)) (sym (calm_taken s r xs goes entered.found.told calm)) (entered_valid law);
         called = ready.called;
         tied = tied_region (record s { objects = record s.objects { seat = o.seat } }) r entered_tied;
-        most = ready.most;
       })
 
   -- ---- once the open sweep was ended

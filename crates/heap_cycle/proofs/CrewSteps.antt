@@ -30,7 +30,7 @@ has_manned s new is =
     let marks : HasMarks s.cycle.phase (cursor_at new.shape s.cycle.sweep) s.cycle.rest.may new =
     subst (λ ph. HasMarks ph (cursor_at new.shape s.cycle.sweep) s.cycle.rest.may new) (sym is.marking) (is.marks before) in
     record {
-      tied = tied_nodes s new s.cycle is.tied (λ n. subst (λ (ns : List Node). StaysAt s.objects.nodes ns n) (sym is.nodes) (refl, refl)) is.setup refl refl (omega arith)
+      tied = tied_nodes s new s.cycle is.tied (λ n. subst (λ (ns : List Node). StaysAt s.objects.nodes ns n) (sym is.nodes) (refl, refl)) is.setup refl
           (subst (λ (u : Setup). IsSweepOf u.shape s.cycle.phase s.cycle.rest.cursor s.cycle.sweep) (sym is.setup) is.tied.sweep) marks (is.traced ∙ is.tied.traced)
           (omega (arith, is.tied.made, ap length is.nodes));
       manned = is.running ∙ sym (ap (λ (u : Setup). u.markers) is.setup);

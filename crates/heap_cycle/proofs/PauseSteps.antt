@@ -38,7 +38,7 @@ use Rattle.heap_cycle.specs.Cycles.{HasPaused, pause_line}
 use Rattle.heap_cycle.specs.Parts.{setup_of, state_of}
 use Rattle.heap_cycle.specs.Printed.{ran_lines}
 use Rattle.heap_cycle.specs.Region.{HasRegion}
-use Rattle.heap_cycle.specs.Registrations.{lines_ran, counts_run}
+use Rattle.heap_cycle.specs.Registrations.{lines_ran}
 use Rattle.heap_cycle.specs.Ties.{places-same, placed_still, valid_nodes}
 use Rattle.heap_cycle.specs.Views.{CycleView, IsPlaced}
 use Rattle.heap_cycle.proofs.EnteredRegion.{grown, placed_entered, started_entered}
@@ -213,7 +213,6 @@ module _ (markers : ℕ) (want : Want) (s : Parts) (new : ObjectsView) (left : H
               (All-weaker (IsLive old) (StaysAt old new.nodes) (λ n live. (places n, is.sizes n live)) (stack_targets h.stack.words) is.ready.valid.stack)
               is.ready.tied.stack);
           registered = registered_left;
-          few = omega (arith, is.ready.tied.few, ordinal, ap length is.paused.left, ap length is.paused.ran, counts_run judged s.cycle.registered);
           sweep = began_sweep s.objects new s.cycle after is.ready.tied.sweep is.setup is.phase is.sweep (ap (λ (st : State). st.cursor) is.rest);
           marks = began_marks new after s.cycle.sweep is.phase is.sweep is.rests is.judged_marks;
           traced = is.kept_traced ∙ is.ready.tied.traced ∙ sym (ap (λ (st : State). st.traced) is.rest);

@@ -130,10 +130,9 @@ module _ (s : Parts) (new : ObjectsView) (after : CycleView) (is : Begins s new 
         called = subst (λ (st : Setup). HaveCallbacks (length st.callbacks) st.types) (sym is.setup) is.ready.called;
         tied = tied_nodes s new after is.ready.tied
             (λ n. subst (λ (ns : List Node). StaysAt s.objects.nodes ns n) (sym is.nodes) (refl, refl)) is.setup
-            (ap (λ (c : CycleView). c.registered) is.cycle) (ap (λ (c : CycleView). c.ran) is.cycle) (omega (arith, ordinal))
+            (ap (λ (c : CycleView). c.registered) is.cycle)
             begun_sweep begun_marks (is.traced ∙ sym (ap (λ (c : CycleView). c.rest.traced) is.cycle))
             (omega (arith, is.ready.tied.made, ordinal, ap length is.nodes));
-        most = omega (arith, is.ready.most, ordinal);
       }
 
 -- ---- the start after what threads have done

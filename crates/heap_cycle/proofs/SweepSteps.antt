@@ -169,11 +169,10 @@ parts_ready s new after pages before told law shape ready sweeping further withi
       valid = subst (λ (st : Setup). IsValid st t) (sym is.setup)
           (valid_swept (setup_of s) (state_of s) t pages is.nodes.numbers law shape ready.valid sweeping (omega (arith, further, cursor)) within goes);
       called = subst (λ (st : Setup). HaveCallbacks (length st.callbacks) st.types) (sym is.setup) ready.called;
-      tied = tied_nodes s new after ready.tied (λ n. stays_swept limit o.nodes new.nodes n is.nodes.nodes) is.setup is.registered is.ran (omega (arith, ordinal))
+      tied = tied_nodes s new after ready.tied (λ n. stays_swept limit o.nodes new.nodes n is.nodes.nodes) is.setup is.registered
           (sweep_after o new y after pages before told is ready.tied.sweep.pages) (marks_after o new y after pages before told is)
           (ap (λ (g : GreyView). g.traced) is.grey ∙ ready.tied.traced ∙ sym (ap (λ (st : State). st.traced) is.rest))
           (omega (arith, ready.tied.made, ordinal, ap length is.nodes.nodes, length-map o.nodes (finalise limit)));
-      most = omega (arith, ready.most, ordinal);
     }
 
 -- ---- a sweep of all pages begins

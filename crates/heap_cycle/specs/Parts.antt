@@ -1,5 +1,5 @@
 -- The parts of a heap together: the state that they are, and what is true of them between commands.
-use Rattle.std.specs.Prelude.{◌≡◌, ℕ, ◌+◌, ◌-◌, ◌*◌, ◌≤◌, ◌++◌, length, map, take, All}
+use Rattle.std.specs.Prelude.{◌≡◌, ℕ, ◌+◌, ◌-◌, ◌≤◌, ◌++◌, length, map, take, All}
 use Rattle.gc_graph.specs.declared.line.Line.{Line}
 use Rattle.gc_graph.specs.declared.phase.Phase.TheVariants.{Marking}
 use Rattle.gc_graph.specs.State.{Setup, State, type_at}
@@ -58,13 +58,12 @@ unregistered count s = record s { cycle = record s.cycle { registered = take (le
 
 -- the parts belong together: slots, strong and weak, hold the places of what they name, and so do registrations; the stack holds
 -- its words; the sweep and the marks are those of the phase, with what may be kept and how many objects were traced; and no more
--- nodes were made than commands were answered, and at most 16 registrations for each
+-- nodes were made than commands were answered
 pub record AreTied (s : Parts) : Type 0 where
   pub slots : s.handles.places ≡ places_of_slots s.objects.nodes s.handles.slots
   pub weak : s.handles.weak_places ≡ places_of_slots s.objects.nodes s.handles.weak
   pub stack : HoldsWords s.objects.nodes s.handles.stack
   pub registered : All (IsPlaced s.objects.nodes (length s.objects.callbacks)) s.cycle.registered
-  pub few : length s.cycle.registered + length s.cycle.ran ≤ 16 * s.cycle.rest.ordinal
   pub sweep : IsSweepOf s.objects.shape s.cycle.phase s.cycle.rest.cursor s.cycle.sweep
   pub marks : HasMarks s.cycle.phase (cursor_at s.objects.shape s.cycle.sweep) s.cycle.rest.may s.objects
   pub traced : s.objects.grey.traced ≡ s.cycle.rest.traced
@@ -75,7 +74,6 @@ pub record IsReady (s : Parts) : Type 0 where
   pub valid : IsValid (setup_of s) (state_of s)
   pub called : HaveCallbacks (length s.objects.callbacks) s.objects.types
   pub tied : AreTied s
-  pub most : s.cycle.rest.ordinal ≤ 1000000
 
 -- while marking goes on between two commands, as many markers run as the heap has
 abbrev pub IsManned : Parts → Type 0

@@ -1,7 +1,6 @@
 -- Lists of registrations: what joins them, and what a pause takes away.
-use Rattle.std.proofs.Common.{◌≡◌, ℕ, ◌+◌, ◌-◌, Bool, true, false, not, All, List, [], ◌∷◌, ◌++◌, length, map, filter, take, drop, cond, refl, sym, ap, ◌∙◌, arith}
-use Rattle.std.proofs.lemmas.List.{length-append, length-map, length-reverse, map-append}
-use Rattle.std.proofs.lemmas.List.Filters.{length-filter_both}
+use Rattle.std.proofs.Common.{◌≡◌, ℕ, ◌-◌, Bool, true, false, not, All, List, [], ◌∷◌, ◌++◌, length, map, filter, take, drop, cond, refl, sym, ap, ◌∙◌, arith}
+use Rattle.std.proofs.lemmas.List.{length-append, length-map, map-append}
 use Rattle.std.proofs.lemmas.List.Elements.{All-head, All-tail, All-nil, All-cons}
 use Rattle.std.proofs.Math.Seq.{take-append_seam, drop-append_seam}
 use Rattle.gc_graph.specs.declared.line.Line.TheVariants as L
@@ -84,19 +83,6 @@ lines_of_pairs (r ∷ rs) = ap (λ ls. L.Prefinalise r.node r.callback ∷ ls) (
 -- the lines of those that ran
 pub lines_ran : (nodes : List Node) (entries : List Registered) → ran_lines true (pairs_run nodes entries) ≡ prefinalise_lines (run_order nodes (registrations_of entries))
 lines_ran nodes entries = lines_of_pairs (run_order nodes (registrations_of entries))
-
-twice : (b : Bool) → b ≡ not (not b)
-twice true = refl
-twice false = refl
-
--- each registration ran or is left
-pub counts_run : (xs : List Node) (entries : List Registered) → length (entries_left xs entries) + length (pairs_run xs entries) ≡ length entries
-counts_run xs entries =
-    let dies_of : Registered → Bool = λ e. dies xs (registration_of e) in
-    let ran : length (pairs_run xs entries) ≡ length (filter dies_of entries) =
-    length-map (run_order xs (registrations_of entries)) pair_of ∙ length-reverse (filter (dies xs) (registrations_of entries))
-    ∙ sym (ap length (left_by (dies xs) entries)) ∙ length-map (filter dies_of entries) registration_of in
-    omega (arith, ran, length-filter_both (λ e. not (dies_of e)) dies_of (λ e. twice (dies_of e)) entries)
 
 -- ---- while the new object has no place yet
 

@@ -86,7 +86,6 @@ tied_slot s p target is tied = record {
   weak = tied.weak;
   stack = tied.stack;
   registered = tied.registered;
-  few = omega (arith, tied.few);
   sweep = tied.sweep;
   marks = tied.marks;
   traced = tied.traced;
@@ -101,7 +100,6 @@ tied_copy s p q tied = record {
   weak = tied.weak;
   stack = tied.stack;
   registered = tied.registered;
-  few = omega (arith, tied.few);
   sweep = tied.sweep;
   marks = tied.marks;
   traced = tied.traced;
@@ -116,7 +114,6 @@ tied_weak s w p tied = record {
       ∙ sym (map-set (λ (slot : Option ℕ). option_map (place_of s.objects.nodes) slot) s.handles.weak w (get_or s.handles.slots p None));
   stack = tied.stack;
   registered = tied.registered;
-  few = omega (arith, tied.few);
   sweep = tied.sweep;
   marks = tied.marks;
   traced = tied.traced;
@@ -130,7 +127,6 @@ tied_pop s tied = record {
   weak = tied.weak;
   stack = words_popped s.objects.nodes s.handles.stack tied.stack;
   registered = tied.registered;
-  few = omega (arith, tied.few);
   sweep = tied.sweep;
   marks = tied.marks;
   traced = tied.traced;
@@ -149,18 +145,17 @@ placed_still o new entries same callbacks placed =
     All-weaker (IsPlaced o.nodes (length o.callbacks)) (IsPlaced new.nodes (length new.callbacks))
     (λ e is. record { place = same e.node ∙ is.place; known = omega (arith, is.known, ap length callbacks) }) entries placed
 
--- the nodes change, but their places and sizes stay, and no prefinalizer is registered or run
+-- the nodes change, but their places and sizes stay, and no prefinalizer is registered
 pub tied_nodes : (s : Parts) (new : ObjectsView) (after : CycleView) → AreTied s → ((n : ℕ) → StaysAt s.objects.nodes new.nodes n)
-    → setup_of_objects new ≡ setup_of s → after.registered ≡ s.cycle.registered → after.ran ≡ s.cycle.ran → s.cycle.rest.ordinal ≤ after.rest.ordinal
+    → setup_of_objects new ≡ setup_of s → after.registered ≡ s.cycle.registered
     → IsSweepOf new.shape after.phase after.rest.cursor after.sweep → HasMarks after.phase (cursor_at new.shape after.sweep) after.rest.may new
     → new.grey.traced ≡ after.rest.traced → length new.nodes ≤ after.rest.ordinal → AreTied (record s { objects = new; cycle = after })
-tied_nodes s new after tied same setup registered ran later sweep marks traced made = record {
+tied_nodes s new after tied same setup registered sweep marks traced made = record {
   slots = tied.slots ∙ sym (places-same (place_of new.nodes) (place_of s.objects.nodes) s.handles.slots (λ n. (same n).0));
   weak = tied.weak ∙ sym (places-same (place_of new.nodes) (place_of s.objects.nodes) s.handles.weak (λ n. (same n).0));
   stack = words_held s.objects.nodes new.nodes s.handles.stack (λ k d low. same _) tied.stack;
   registered = subst (All (IsPlaced new.nodes (length new.callbacks))) (sym registered)
       (placed_still s.objects new s.cycle.registered (λ n. (same n).0) (ap (λ (st : Setup). st.callbacks) setup) tied.registered);
-  few = omega (arith, tied.few, ap length registered, ap length ran, later);
   sweep = sweep;
   marks = marks;
   traced = traced;
@@ -172,7 +167,7 @@ pub tied_fields : (s : Parts) (new : ObjectsView) → AreTied s → ((n : ℕ) �
     → HasMarks s.cycle.phase (cursor_at s.objects.shape s.cycle.sweep) s.cycle.rest.may new → new.grey.traced ≡ s.objects.grey.traced
     → length new.nodes ≡ length s.objects.nodes → AreTied (counted (record s { objects = new }))
 tied_fields s new tied same setup marks traced made =
-    tied_nodes s new (counted s).cycle tied same setup refl refl (omega arith) (subst (λ (st : Setup). IsSweepOf st.shape s.cycle.phase s.cycle.rest.cursor s.cycle.sweep) (sym setup) tied.sweep)
+    tied_nodes s new (counted s).cycle tied same setup refl (subst (λ (st : Setup). IsSweepOf st.shape s.cycle.phase s.cycle.rest.cursor s.cycle.sweep) (sym setup) tied.sweep)
     (subst (λ (st : Setup). HasMarks s.cycle.phase (cursor_at st.shape s.cycle.sweep) s.cycle.rest.may new) (sym setup) marks) (traced ∙ tied.traced)
     (omega (arith, tied.made, made))
 
@@ -183,7 +178,6 @@ tied_counted s tied = record {
   weak = tied.weak;
   stack = tied.stack;
   registered = tied.registered;
-  few = omega (arith, tied.few);
   sweep = tied.sweep;
   marks = tied.marks;
   traced = tied.traced;

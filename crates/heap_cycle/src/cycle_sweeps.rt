@@ -33,7 +33,6 @@ impl Cycle {
         requires rest { ObjectsAreAtRest objects.old }
         requires marks { IsSweptTo (cursor_at objects.old.shape self.old.sweep) objects.old.seat }
         requires valid { AreOfValid (setup_of_objects objects.old) objects.old.nodes }
-        requires few { length objects.old.nodes ≤ 1000000 }
         requires told { AreFewTold objects.old.shape
             (cursor_at objects.old.shape self.old.sweep) objects.old.seat finalised.old.items }
         requires room { word_count objects.old.shape ≤ 2 * vec_capacity finalised.old }
@@ -56,7 +55,6 @@ impl Cycle {
         requires rest { ObjectsAreAtRest objects.old }
         requires marks { IsSweptTo (cursor_at objects.old.shape self.old.sweep) objects.old.seat }
         requires valid { AreOfValid (setup_of_objects objects.old) objects.old.nodes }
-        requires few { length objects.old.nodes ≤ 1000000 }
         requires told { AreFewTold objects.old.shape
             (cursor_at objects.old.shape self.old.sweep) objects.old.seat finalised.old.items }
         requires room { word_count objects.old.shape ≤ 2 * vec_capacity finalised.old }

@@ -1,7 +1,7 @@
 // The outcome of a command: finalised nodes, then at most one more line, and then the prefinalizers
 // that it ran. It takes no memory after it was made.
 
-ghost use Rattle.std.specs.Prelude.{◌≡◌, ◌++◌, ◌<◌, ◌≤◌, ◌==◌, not, [], length, Some, false};
+ghost use Rattle.std.specs.Prelude.{◌≡◌, ◌++◌, ◌<◌, ◌==◌, not, [], length, Some, false};
 ghost use Rattle.std.specs.Prelude.{ℕ, List, ◌∷◌, None, IfOk, IfSome, IfNone, slice_get};
 ghost use Rattle.gc_graph.specs.declared.line.Line.{Line};
 ghost use Rattle.gc_graph.specs.declared.line.Line.TheVariants as L;
@@ -82,17 +82,17 @@ impl Outcome {
 
     /// How many lines there are, once the last one ended it, where the last pause ran these
     /// prefinalizers.
-    pub fn count(&self, ran: &[(u32, u32)]) -> u32
+    pub fn count(&self, ran: &[(u32, u32)]) -> u64
         requires ended { self.now.last ≡ None → ⊥ }
-        requires few { length ran.now ≤ 16000000 }
-        ensures { result ≡ length (outcome_lines self.now ran.now) }
+        ensures count { result ≡ length (outcome_lines self.now ran.now) }
+        ensures some { 0 < result }
     {
         let prefinalised = if self.prefinalises {
-            ran.len() as u32
+            ran.len() as u64
         } else {
             0
         };
-        self.finalised.len() as u32 + 1 + prefinalised
+        self.finalised.len() as u64 + 1 + prefinalised
     }
 
     /// The line of the outcome, where it has one alone, unless that tells a finalised node or a
@@ -124,18 +124,18 @@ impl Outcome {
     }
 
     /// A line of the outcome, where the last pause ran these prefinalizers.
-    pub fn line(&self, index: u32, ran: &[(u32, u32)]) -> Line
+    pub fn line(&self, index: u64, ran: &[(u32, u32)]) -> Line
         requires { index < length (outcome_lines self.now ran.now) }
         ensures { slice_get (outcome_lines self.now ran.now) index ≡ Some result }
     {
         match self.finalised.get(index as usize) {
             Some(number) => Line::Finalise { k: *number },
-            None => self.later_line(index - self.finalised.len() as u32, ran),
+            None => self.later_line(index - self.finalised.len() as u64, ran),
         }
     }
 
     /// A line after those of the finalised nodes.
-    fn later_line(&self, index: u32, ran: &[(u32, u32)]) -> Line
+    fn later_line(&self, index: u64, ran: &[(u32, u32)]) -> Line
         requires { index < length (later_lines self.now ran.now) }
         ensures { slice_get (later_lines self.now ran.now) index ≡ Some result }
     {

@@ -1,5 +1,5 @@
 -- From what a function says of its line to what is owed of the command that it does.
-use Rattle.std.proofs.Common.{arith, inl, inr, ◌≡◌, ℕ, ◌<◌, ◌≤◌, true, false, List, [], ◌∷◌, length, Some, All, refl, sym, ap, ◌∙◌, subst}
+use Rattle.std.proofs.Common.{arith, inl, inr, ◌≡◌, ℕ, ◌<◌, true, false, List, [], ◌∷◌, length, Some, All, refl, sym, ap, ◌∙◌, subst}
 use Rattle.std.proofs.Math.Seq.{take-length}
 use Rattle.std.proofs.lemmas.Bool.{true≢false}
 use Rattle.std.proofs.lemmas.List.Elements.{All-nil}
@@ -170,10 +170,6 @@ taking_done command s new begun before o line lines is told other no_step asked 
       room = ap (λ (p : Printed). p.room) is ∙ room;
     }
 
--- after it, no more prefinalizers ran than commands can have registered
-pub few_ran : (command : Command) (s new : Parts) (begun o : Printed) → IsCarriedOut command s new begun o → s.cycle.rest.ordinal < 1000000 → length new.cycle.ran ≤ 16000000
-few_ran command s new begun o done few = omega (arith, done.frame.tied.few, done.frame.ordinal, few)
-
 -- ---- what a heap between commands asks
 
 -- once the last command tells nothing more, and the outcome has begun, a command may be done
@@ -200,13 +196,11 @@ asked_of h quiet begun sound opened is empty =
         weak = ready.tied.weak;
         stack = ready.tied.stack;
         registered = ready.tied.registered;
-        few = ready.tied.few;
         sweep = ready.tied.sweep;
         marks = ready.tied.marks;
         traced = ready.tied.traced;
         made = ready.tied.made;
       };
-      most = ready.most;
     }
 
 -- the parts as a command finds them: the last one tells nothing more

@@ -74,7 +74,6 @@ ready_empty s heap shape markers types callbacks law called is =
         weak = null_places 64;
         stack = record { addresses = refl; places = refl; inside = λ k d low. absurd (omega (arith, low)) };
         registered = λ k d low. absurd (omega arith);
-        few = omega arith;
         sweep = record { pages = refl; cursor_is = refl };
         marks = (
           record {
@@ -96,7 +95,6 @@ ready_empty s heap shape markers types callbacks law called is =
         traced = refl;
         made = omega arith;
       };
-      most = omega arith;
     } in
     subst IsReady (sym is) ready
 

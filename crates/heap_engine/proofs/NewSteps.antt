@@ -1,8 +1,8 @@
 -- The step of a new object.
-use Rattle.std.proofs.Common.{◌≡◌, ℕ, ◌+◌, ◌*◌, ◌<◌, ◌≤◌, List, [], ◌∷◌, ◌++◌, length, map, set, Bool, Option, Some, None, option_map, refl, sym, ap, ◌∙◌, subst, inr, arith}
+use Rattle.std.proofs.Common.{◌≡◌, ℕ, ◌<◌, List, [], ◌∷◌, ◌++◌, length, map, set, Bool, Option, Some, None, option_map, refl, sym, ap, ◌∙◌, subst, inr, arith}
 use Rattle.std.specs.List.{All}
 use Rattle.std.specs.Option.{ForSome}
-use Rattle.std.proofs.lemmas.List.{length_push, map-set, length-append, length-map}
+use Rattle.std.proofs.lemmas.List.{length_push, map-set}
 use Rattle.std.proofs.lemmas.List.Elements.{All-get_or, All-head, All-tail, All-append, All-map, All-weaker}
 use Rattle.gc_graph.specs.declared.line.Line.{Line}
 use Rattle.gc_graph.specs.declared.line.Line.TheVariants as L
@@ -102,19 +102,6 @@ registered_made s new t place x ready low at nodes callbacks =
     (All-weaker (λ number. number < most) (λ number. IsPlaced now most (registered (length old) place number))
     (λ number is. record { place = ap (λ (y : Node). y.place) (node-new old x) ∙ at; known = is }) prefinalizers known))))
 
-few_made : (s : Parts) (t place : ℕ) → IsReady s → t < length s.objects.types
-    → length (registered_in s t place).cycle.registered + length s.cycle.ran ≤ 16 * (s.cycle.rest.ordinal + 1)
-few_made s t place ready low =
-    let prefinalizers : List ℕ = (type_at (setup_of s) t).prefinalizers in
-    let most : length prefinalizers ≤ 16 = All-get_or (λ (type : ObjectType). length type.prefinalizers ≤ 16) s.objects.types t no_type low ready.called.few in
-    omega (
-      arith,
-      ready.tied.few,
-      most,
-      length-append s.cycle.registered (map (registered (length s.objects.nodes) place) prefinalizers),
-      length-map prefinalizers (registered (length s.objects.nodes) place),
-    )
-
 -- the places of the slots, strong and weak, are as before, and slot p's is that of the new node
 pub tied_made : (s : Parts) (new : ObjectsView) (after : HandlesView) (left : CycleView) (p t place number : ℕ) (x : Node) → IsReady s → t < length s.objects.types
     → HasMarks s.cycle.phase (cursor_at s.objects.shape s.cycle.sweep) (may_with_new s.cycle.phase s.cycle.rest.may) new → new.grey ≡ s.objects.grey
@@ -143,7 +130,6 @@ tied_made s new after left p t place number x ready low marks grey setup counts 
           (All-weaker (IsLive old) (StaysAt old now) (λ n is. stays-old old x n (there_below old n (live_is_there old n is)))
           (stack_targets h.stack.words) ready.valid.stack) tied.stack));
       registered = registered_made s new t place x ready low at nodes callbacks;
-      few = few_made s t place ready low;
       sweep = subst (λ (st : Setup). IsSweepOf st.shape y.phase y.rest.cursor y.sweep) (sym setup) tied.sweep;
       marks = subst (λ (st : Setup). HasMarks y.phase (cursor_at st.shape y.sweep) (may_with_new y.phase y.rest.may) new) (sym setup) marks;
       traced = ap (λ (g : GreyView). g.traced) grey ∙ tied.traced;

@@ -80,7 +80,7 @@ module _ (s : Parts) (o : ObjectsView) (r : OwnedView) (more : List PlacedEntry)
       looked.marks (state_of s) (cursor_at s.objects.shape s.cycle.sweep) refl refl tied.marks in
       let with_seat : ObjectsView = record s.objects { seat = o.seat } in
       let whole : AreTied (taken_parts s with_seat r) =
-      still_tied (tied_nodes s with_seat (record s.cycle { rest = with_taken (moment_of s) r.taken s.cycle.rest }) tied (λ n. (refl, refl)) refl refl refl (omega arith)
+      still_tied (tied_nodes s with_seat (record s.cycle { rest = with_taken (moment_of s) r.taken s.cycle.rest }) tied (λ n. (refl, refl)) refl refl
       tied.sweep (subst (HasMarks s.cycle.phase (cursor_at s.objects.shape s.cycle.sweep) (took (state_of s) (piece_of s.region r)).may) looked.others marks) tied.traced tied.made) in
       subst (λ (x : ObjectsView). AreTied (taken_parts s x r)) (sym looked.others) whole
     where
@@ -90,7 +90,6 @@ module _ (s : Parts) (o : ObjectsView) (r : OwnedView) (more : List PlacedEntry)
         weak = tied.weak;
         stack = tied.stack;
         registered = tied.registered;
-        few = tied.few;
         sweep = tied.sweep;
         marks = tied.marks;
         traced = tied.traced;

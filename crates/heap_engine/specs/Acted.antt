@@ -1,5 +1,5 @@
 -- What a command does to a heap.
-use Rattle.std.specs.Prelude.{◌≡◌, ◌⊎◌, ℕ, ◌+◌, ◌-◌, ◌^◌, ◌<◌, ◌≤◌, ◌++◌, true, false, [], ◌∷◌, length, Contains}
+use Rattle.std.specs.Prelude.{◌≡◌, ◌⊎◌, ℕ, ◌+◌, ◌-◌, ◌^◌, ◌<◌, ◌≤◌, ◌++◌, true, false, List, [], ◌∷◌, length, Contains}
 use Rattle.gc_graph.specs.declared.command.Command.{Command}
 use Rattle.gc_graph.specs.declared.command.Command.TheVariants as C
 use Rattle.gc_graph.specs.declared.line.Line.TheVariants as L
@@ -7,14 +7,19 @@ use Rattle.gc_graph.specs.declared.phase.Phase.TheVariants.{Marking}
 use Rattle.gc_graph.specs.Graph.{IsWithin}
 use Rattle.gc_graph.specs.Lawful.{TotalsNeverFall}
 use Rattle.gc_graph.specs.Reach.{HoldsAll}
-use Rattle.gc_graph.specs.State.{slot_targets, strong_region_targets}
+use Rattle.gc_graph.specs.State.{Node, slot_targets, strong_region_targets}
 use Rattle.gc_graph.specs.Step.{Step}
 use Rattle.heap_cycle.specs.Pages.{word_count}
 use Rattle.heap_cycle.specs.Cycles.{HasNoRefusedNote, HasNoRefusedPush}
+use Rattle.heap_cycle.specs.Nodes.{most_nodes}
 use Rattle.heap_cycle.specs.Notes.{note_of}
 use Rattle.heap_cycle.specs.Walks.{IsWalkToldIn}
 use Rattle.heap_engine.specs.Going.{TellOneOf, since_after, totals_of}
 use Rattle.heap_engine.specs.View.{Items, View}
+
+-- where the command makes an object, a number is left for it
+abbrev pub HasNumber : List Node → Command → Type 0
+HasNumber nodes command = (p t e : ℕ) → command ≡ C.New p t e → length nodes < most_nodes
 
 -- a step that is done: without markers each marked node is traced, unless a push was refused in the cycle; and beside markers the
 -- owner's last pop and steal found nothing, or it took so many items that it was ended

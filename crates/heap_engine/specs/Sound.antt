@@ -1,5 +1,5 @@
 -- How a heap's fields are seen, and what is true of them.
-use Rattle.std.specs.Prelude.{◌≡◌, ◌⊎◌, ◌*◌, ◌≤◌, true, false, [], ◌++◌, length, drop, All}
+use Rattle.std.specs.Prelude.{◌≡◌, ◌⊎◌, ◌*◌, ◌-◌, ◌^◌, ◌≤◌, true, false, [], ◌++◌, length, drop, All}
 use Rattle.gc_graph.specs.ThreadLaw.{IsCounted}
 use Rattle.marker_core.specs.Bodies.{holds}
 use Rattle.heap_cycle.specs.Pages.{word_count}
@@ -58,7 +58,7 @@ pub record IsSound (h : Inside) : Type 0 where
   pub manned : h.closed ≡ false → IsManned h.parts
   pub region : h.closed ≡ false → HasRegion h.parts
   pub joined_at_last : h.closed ≡ true → (h.parts.objects.grey.running ≡ []) × (h.parts.objects.seat.lent ≡ 0) × (h.parts.region.out ≡ [])
-  pub most : h.parts.cycle.rest.ordinal ≤ 1000000
+  pub most : h.parts.cycle.rest.ordinal ≤ 2 ^ 64 - 1
   pub made : length h.parts.objects.nodes ≤ h.parts.cycle.rest.ordinal
   pub none_out : h.parts.region.awaiting ≡ false → h.parts.region.out ≡ []
   pub board : ArePublished h.since.value (state_of h.parts) h.parts.region

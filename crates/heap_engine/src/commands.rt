@@ -5,6 +5,7 @@ ghost use Rattle.std.specs.Prelude.{◌≡◌, length};
 ghost use Rattle.gc_graph.specs.Lawful.{IsAllowed};
 ghost use Rattle.gc_graph.specs.Sections.{IsInSection};
 ghost use Rattle.callback_table.specs.Table.{callback_kinds};
+ghost use Rattle.heap_engine.specs.Acted.{HasNumber};
 ghost use Rattle.heap_engine.specs.CarriedOut.{IsAsked, IsCommandDone};
 
 use crate::creating::new_object;
@@ -35,6 +36,7 @@ pub(crate) fn run<R: Threads + Wait + Copy + Send + 'static, G: Gate + Send + Sy
     requires kinds { callback_kinds callbacks.now ≡ parts.old.objects.callbacks }
     requires allowed { IsAllowed (length parts.old.objects.types) command.now }
     requires section { IsInSection parts.old.region.awaiting command.now }
+    requires numbered { HasNumber parts.old.objects.nodes command.now }
     ensures done { IsCommandDone command.now parts.old parts.new outcome.old outcome.new }
 {
     match *command {

@@ -7,6 +7,7 @@ ghost use Rattle.gc_graph.specs.State.{type_at};
 ghost use Rattle.gc_graph.specs.Outcomes.{answered};
 ghost use Rattle.gc_graph.specs.ObjectSteps.{StepNew};
 ghost use Rattle.heap_cycle.specs.Pages.{word_count};
+ghost use Rattle.heap_cycle.specs.Nodes.{most_nodes};
 ghost use Rattle.heap_cycle.specs.Objects.{HaveCallbacks};
 ghost use Rattle.heap_cycle.specs.Parts.{setup_of, state_of, counted, registered_in};
 ghost use Rattle.heap_cycle.specs.Parts.{IsReady, IsFrame};
@@ -25,6 +26,7 @@ pub fn new_object(parts: &mut Parts, outcome: &mut Outcome, p: u32, t: u32, extr
     requires slot { p < 256 }
     requires ty { t < length parts.old.objects.types }
     requires extra { extra ≤ 33554432 }
+    requires numbered { length parts.old.objects.nodes < most_nodes }
     requires nothing { TellsNothing outcome.old }
     requires room { word_count parts.old.objects.shape ≤ 2 * outcome.old.room }
     ensures done { IsDoneAlone (C.New p t extra) parts.old parts.new outcome.old outcome.new }
@@ -39,6 +41,7 @@ fn make(parts: &mut Parts, outcome: &mut Outcome, p: u32, t: u32, extra: u32) ->
     requires slot { p < 256 }
     requires ty { t < length parts.old.objects.types }
     requires extra { extra ≤ 33554432 }
+    requires numbered { length parts.old.objects.nodes < most_nodes }
     requires numbers { outcome.old.numbers ≡ [] }
     requires calm { outcome.old.prefinalises ≡ false }
     requires room { word_count parts.old.objects.shape ≤ 2 * outcome.old.room }

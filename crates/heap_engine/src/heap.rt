@@ -1,6 +1,6 @@
 // A heap that does commands, as its callers have it.
 
-ghost use Rattle.std.specs.Prelude.{◌≡◌, ◌<◌, ◌≤◌, ℕ, Contains};
+ghost use Rattle.std.specs.Prelude.{◌≡◌, ◌-◌, ◌^◌, ◌<◌, ◌≤◌, ℕ, Contains};
 ghost use Rattle.std.specs.Prelude.{false, true, [], ◌∷◌, length, take, Some};
 ghost use Rattle.std.specs.Prelude.{IfOk, IfSome, IfNone, slice_get};
 ghost use Rattle.gc_graph.specs.declared.line.Line.{Line};
@@ -11,7 +11,7 @@ ghost use Rattle.gc_graph.specs.Sections.{IsInSection};
 ghost use Rattle.gc_graph.specs.Lawful.{IsAllowed, IsEndLine, summary_line};
 ghost use Rattle.gc_graph.specs.Shapes.{IsShape};
 ghost use Rattle.callback_table.specs.Table.{callback_kinds};
-ghost use Rattle.heap_engine.specs.Acted.{IsActed};
+ghost use Rattle.heap_engine.specs.Acted.{HasNumber, IsActed};
 ghost use Rattle.heap_engine.specs.Going.{totals_of};
 ghost use Rattle.heap_cycle.specs.Objects.{HaveCallbacks};
 ghost use Rattle.heap_engine.specs.View.{no_refusals, IsClosed};
@@ -103,12 +103,14 @@ impl<'a, G: Gate + Send + Sync + 'static> Heap<'a, G> {
         &mut self,
         rt: &R,
         command: &Command,
-    ) -> u32
-        requires few { self.old.core.state.ordinal < 1000000 }
+    ) -> u64
+        requires few { self.old.core.state.ordinal < 2 ^ 64 - 1 }
+        requires numbered { HasNumber self.old.core.state.nodes command.now }
         requires opened { self.old.core.closed ≡ false }
         requires allowed { IsAllowed (length self.old.core.setup.types) command.now }
         requires section { IsInSection self.old.core.state.awaiting command.now }
         ensures acted { IsActed self.old.core self.new.core command.now result }
+        ensures told { 0 < result }
     {
         self.gate.pass(OWNER, BEFORE_COMMAND);
         let count = self.core.act(rt, command, self.callbacks, &self.gate);
@@ -117,7 +119,7 @@ impl<'a, G: Gate + Send + Sync + 'static> Heap<'a, G> {
     }
 
     /// A line of the last outcome.
-    pub fn line(&mut self, index: u32) -> Line
+    pub fn line(&mut self, index: u64) -> Line
         requires { index < length self.old.core.lines }
         ensures line { slice_get self.old.core.lines index ≡ Some result }
         ensures same { self.new.core ≡ self.old.core }
@@ -142,6 +144,13 @@ impl<'a, G: Gate + Send + Sync + 'static> Heap<'a, G> {
         ensures all { result.now ≡ finalised_in self.now.core.lines }
     {
         self.core.finalised()
+    }
+
+    /// No more nodes were made than commands were done. Whoever calls this has the law.
+    pub fn nodes_are_few(&self)
+        ensures { length self.now.core.state.nodes ≤ self.now.core.state.ordinal }
+    {
+        self.core.nodes_are_few();
     }
 
     /// The line that tells how many commands, pauses, finalised objects and full outcomes there were,

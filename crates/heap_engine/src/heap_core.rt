@@ -1,7 +1,7 @@
 // The parts of a heap, and the outcome of its last command. Each command is one step of the graph;
 // `commands` says which function does it.
 
-ghost use Rattle.std.specs.Prelude.{◌≡◌, ◌<◌, ℕ, Contains};
+ghost use Rattle.std.specs.Prelude.{◌≡◌, ◌-◌, ◌^◌, ◌<◌, ℕ, Contains};
 ghost use Rattle.std.specs.Prelude.{true, false, [], ◌∷◌, length, take, Some};
 ghost use Rattle.std.specs.Prelude.{◌≤◌, IfOk, IfSome, IfNone, slice_get};
 ghost use Rattle.gc_graph.specs.declared.line.Line.{Line};
@@ -12,7 +12,7 @@ ghost use Rattle.gc_graph.specs.Outcomes.{finalise_lines};
 ghost use Rattle.gc_graph.specs.Lawful.{IsAllowed, IsEndLine, summary_line};
 ghost use Rattle.gc_graph.specs.Shapes.{IsShape};
 ghost use Rattle.callback_table.specs.Table.{callback_kinds};
-ghost use Rattle.heap_engine.specs.Acted.{IsActed};
+ghost use Rattle.heap_engine.specs.Acted.{HasNumber, IsActed};
 ghost use Rattle.heap_engine.specs.Going.{totals_of};
 ghost use Rattle.heap_cycle.specs.Objects.{HaveCallbacks};
 ghost use Rattle.heap_engine.specs.View.{no_refusals, IsClosed};
@@ -120,13 +120,15 @@ impl Core {
         command: &Command,
         callbacks: &CallbackTable,
         gate: &Arc<G>,
-    ) -> u32
-        requires few { self.old.state.ordinal < 1000000 }
+    ) -> u64
+        requires few { self.old.state.ordinal < 2 ^ 64 - 1 }
+        requires numbered { HasNumber self.old.state.nodes command.now }
         requires opened { self.old.closed ≡ false }
         requires allowed { IsAllowed (length self.old.setup.types) command.now }
         requires section { IsInSection self.old.state.awaiting command.now }
         requires kinds { callback_kinds callbacks.now ≡ self.old.setup.callbacks }
         ensures acted { IsActed self.old self.new command.now result }
+        ensures told { 0 < result }
     {
         self.parts.objects.shape_is_valid();
         gc_graph::step_keeps_valid();
@@ -149,17 +151,17 @@ impl Core {
         self.parts.objects.seat_has_all_words();
         self.parts.cycle.count_command();
         publish(rt, &mut self.parts);
-        self.parts.region.told_count() + self.outcome.count(self.parts.cycle.ran())
+        u64::from(self.parts.region.told_count()) + self.outcome.count(self.parts.cycle.ran())
     }
 
-    pub fn line(&mut self, index: u32) -> Line
+    pub fn line(&mut self, index: u64) -> Line
         requires { index < length self.old.lines }
         ensures line { slice_get self.old.lines index ≡ Some result }
         ensures same { self.new ≡ self.old }
     {
-        let told = self.parts.region.told_count();
+        let told = u64::from(self.parts.region.told_count());
         if index < told {
-            return self.parts.region.told_line(index);
+            return self.parts.region.told_line(index as u32);
         }
         self.outcome.line(index - told, self.parts.cycle.ran())
     }
@@ -180,6 +182,12 @@ impl Core {
         ensures all { result.now ≡ finalised_in self.now.lines }
     {
         self.outcome.finalised()
+    }
+
+    pub fn nodes_are_few(&self)
+        ensures { length self.now.state.nodes ≤ self.now.state.ordinal }
+    {
+        let _parts = &self.parts;
     }
 
     pub fn summary(&self) -> Line

@@ -7,7 +7,7 @@ use Rattle.gc_graph.specs.Sweep.{finalise}
 use Rattle.page_words.specs.Seat.{SeatView}
 use Rattle.page_space.specs.Space.{SpaceView}
 use Rattle.sweeper.specs.Sweeping.{SweepView, cursor_at, MaySweep, Sweeps}
-use Rattle.atomic_pause.specs.Nodes.{IsHeld, AreOfValid}
+use Rattle.atomic_pause.specs.Nodes.{IsHeld, AreOfValid, most_nodes}
 use Rattle.atomic_pause.specs.NodePlaces.{serials_fit}
 use Rattle.atomic_pause.specs.DeadUnnamed.{dead_unnamed}
 use Rattle.heap_objects.specs.declared.marking.Grey.{Grey}
@@ -21,7 +21,7 @@ setup_in grey space types callbacks = record { shape = space.shape; markers = gr
 
 -- the objects may be swept from the cursor on where all is swept below it
 pub may_sweep : (space : SpaceView) (v : SeatView) (types : List ObjectType) (callbacks : List ActionKind) (made : ℕ) (grey : Grey) (nodes : List Node) (sweep : SweepView)
-    → AreObjects space v types callbacks made nodes grey → v.on ≡ false → sweep.pages ≡ space.shape.pages → IsSweptTo (cursor_at space.shape sweep) v → length nodes ≤ 1000000
+    → AreObjects space v types callbacks made nodes grey → v.on ≡ false → sweep.pages ≡ space.shape.pages → IsSweptTo (cursor_at space.shape sweep) v → length nodes ≤ most_nodes
     → AreOfValid (setup_in grey space types callbacks) nodes → MaySweep sweep space v
 may_sweep space v types callbacks made grey nodes sweep is off pages marks few valid = record {
   laid = is.laid;

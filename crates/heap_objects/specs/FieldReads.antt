@@ -21,7 +21,7 @@ use Rattle.member_fields.specs.Words.{IsWordIn}
 use Rattle.heap_objects.specs.declared.field.Field.{Field}
 use Rattle.heap_objects.specs.declared.field.Wanted.{Wanted}
 use Rattle.heap_objects.specs.declared.field.Wanted.TheVariants.{References, Numbers, Pairs}
-use Rattle.atomic_pause.specs.Nodes.{place_of, word_of, body_of, bodies_of, AreOfValid}
+use Rattle.atomic_pause.specs.Nodes.{place_of, word_of, body_of, bodies_of, most_nodes, AreOfValid}
 use Rattle.heap_objects.specs.Fields.{allows, IsFieldOf, value_in, IsLiveReference, Suits, TakesValue, TakesWord}
 use Rattle.heap_objects.specs.Objects.{IsReferenceTo, target_in}
 use Rattle.atomic_pause.specs.NodePlaces.{live_is_there, node_body}
@@ -171,7 +171,7 @@ reference_fits nodes v x w view held read = elim (cases_eq w 0) [
 pub head_number : (nodes : List Node) (v : SeatView) (x : Value) (w m a number : ℕ) → NamesNode nodes v x w m → a ≡ w → TellsWordAt v a number → number ≡ m
 head_number nodes v x w m a number read at word = word.serial (body_of (place_of nodes) m (node_at nodes m)) read.body (sym (at ∙ read.word))
 
-pub number_fits : (nodes : List Node) (m : ℕ) → length nodes ≤ 1000000 → IsLive nodes m → m < 2 ^ 32
+pub number_fits : (nodes : List Node) (m : ℕ) → length nodes ≤ most_nodes → IsLive nodes m → m < 2 ^ 32
 number_fits nodes m few live = omega (arith, few, live_below nodes m live)
 
 pub reads_target : (nodes : List Node) (v : SeatView) (x : Value) (w m place number : ℕ) → NamesNode nodes v x w m → place + 1 ≡ w → number ≡ m

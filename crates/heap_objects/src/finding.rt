@@ -8,7 +8,7 @@ ghost use Rattle.gc_graph.specs.May.{may_with_new};
 ghost use Rattle.gc_graph.specs.Placement.{IsLowest, IsNowhere, StartsEmptyRun, extents_of};
 ghost use Rattle.marker_core.specs.Bodies.{holds};
 ghost use Rattle.page_space.specs.Space.{FitsBetween, IsFreePlace};
-ghost use Rattle.atomic_pause.specs.Nodes.{AreOfValid};
+ghost use Rattle.atomic_pause.specs.Nodes.{AreOfValid, most_nodes};
 ghost use Rattle.heap_objects.specs.Objects.{with_made};
 ghost use Rattle.heap_objects.specs.Objects.{setup_of_objects};
 ghost use Rattle.heap_objects.specs.Marks.{HasMarks};
@@ -64,7 +64,7 @@ impl Objects {
         requires ty { t < length self.old.types }
         requires extra { extra ≤ 33554432 }
         requires valid { AreOfValid (setup_of_objects self.old) self.old.nodes }
-        requires few { length self.old.nodes ≤ 1000000 }
+        requires few { length self.old.nodes < most_nodes }
         requires size { size ≡ size_of_type (setup_of_objects self.old) t extra }
         requires some { 2 ≤ size }
         requires most { size < 2 ^ 26 }

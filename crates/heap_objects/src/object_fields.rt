@@ -1,6 +1,6 @@
 // Reading and writing the fields of a heap's objects.
 
-ghost use Rattle.std.specs.Prelude.{◌≡◌, ℕ, ◌≤◌, Bool, List, true, false, length};
+ghost use Rattle.std.specs.Prelude.{◌≡◌, ℕ, Bool, List, true, false};
 ghost use Rattle.std.specs.Prelude.{Some};
 ghost use Rattle.gc_graph.specs.declared.kind.Value.{Value};
 ghost use Rattle.gc_graph.specs.declared.kind.Value.TheVariants.{Word};
@@ -45,7 +45,6 @@ impl Objects {
 
     /// The place and the number of what a strong or weak field names.
     pub fn target_at(&mut self, field: Field) -> Option<(u32, u32)>
-        requires few { length self.old.nodes ≤ 1000000 }
         requires valid { AreOfValid (setup_of_objects self.old) self.old.nodes }
         requires field { (n : ℕ) × (f : ℕ) × IsFieldOf self.old.nodes n f field }
         requires reference { is_reference field.kind ≡ true }
@@ -60,7 +59,6 @@ impl Objects {
 
     /// The place and the number of what a reference names, or none where it is null.
     pub(crate) fn named_by(&mut self, reference: u64) -> Option<(u32, u32)>
-        requires few { length self.old.nodes ≤ 1000000 }
         requires reference { (x : Value) × IsReferenceTo self.old.nodes x reference }
         ensures target { (x : Value) → IsReferenceTo self.old.nodes x reference
             → result ≡ target_in self.old.nodes x }

@@ -22,7 +22,6 @@ impl Objects {
         requires rest { ObjectsAreAtRest self.old }
         requires marks { IsSweptTo (cursor_at self.old.shape sweep.old) self.old.seat }
         requires valid { AreOfValid (setup_of_objects self.old) self.old.nodes }
-        requires few { length self.old.nodes ≤ 1000000 }
         requires told { AreFewTold self.old.shape (cursor_at self.old.shape sweep.old)
             self.old.seat finalised.old.items }
         requires room { word_count self.old.shape ≤ 2 * vec_capacity finalised.old }
@@ -53,7 +52,6 @@ impl Objects {
         requires rest { ObjectsAreAtRest self.old }
         requires marks { IsSweptTo (cursor_at self.old.shape sweep.old) self.old.seat }
         requires valid { AreOfValid (setup_of_objects self.old) self.old.nodes }
-        requires few { length self.old.nodes ≤ 1000000 }
         requires told { AreFewTold self.old.shape (cursor_at self.old.shape sweep.old)
             self.old.seat finalised.old.items }
         requires room { word_count self.old.shape ≤ 2 * vec_capacity finalised.old }

@@ -173,7 +173,6 @@ impl Objects {
 
     /// The number of the object at a place.
     pub fn number_at(&mut self, place: u32) -> u32
-        requires few { length self.old.nodes ≤ 1000000 }
         requires place { (n : ℕ) × IsLiveAt self.old.nodes n place }
         ensures number { (n : ℕ) → IsLiveAt self.old.nodes n place → result ≡ n }
         ensures same { self.new ≡ self.old }

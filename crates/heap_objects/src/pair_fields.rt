@@ -1,7 +1,7 @@
 // The ephemeron pairs of objects: how both words are written, and how one is read
 // (`include/cppgc/ephemeron-pair.h`).
 
-ghost use Rattle.std.specs.Prelude.{◌≡◌, ℕ, ◌≤◌, Bool, List, true, length};
+ghost use Rattle.std.specs.Prelude.{◌≡◌, ℕ, Bool, List, true};
 ghost use Rattle.std.specs.Prelude.{Some};
 ghost use Rattle.gc_graph.specs.declared.phase.Phase.{Phase};
 ghost use Rattle.gc_graph.specs.Fields.{is_pair};
@@ -31,7 +31,6 @@ pub struct PairContent {
 impl Objects {
     /// The place and the number of what a part of a pair names.
     pub fn part_at(&mut self, field: Field, part: Part) -> Option<(u32, u32)>
-        requires few { length self.old.nodes ≤ 1000000 }
         requires valid { AreOfValid (setup_of_objects self.old) self.old.nodes }
         requires field { (n : ℕ) × (f : ℕ) × IsFieldOf self.old.nodes n f field }
         requires pair { is_pair field.kind ≡ true }

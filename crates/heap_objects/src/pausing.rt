@@ -137,7 +137,6 @@ impl Objects {
     ) -> Finished
         requires valid { AreOfValid (setup_of_objects self.old) self.old.nodes }
         requires marks { (may : List Bool) × HasMarking may self.old }
-        requires few { length self.old.nodes ≤ 1000000 }
         requires kinds { callback_kinds callbacks.now ≡ self.old.callbacks }
         requires slots { (slots : List (Option ℕ)) × NamePlaces self.old.nodes slots strong.now }
         requires kept { (p : ℕ) → Contains strong.now (Some p)

@@ -1,6 +1,6 @@
 // The pause of a cycle, over the history that it finds.
 
-ghost use Rattle.std.specs.Prelude.{◌≡◌, ◌+◌, ◌++◌, ◌≤◌, ℕ, List, [], Bool, true, false};
+ghost use Rattle.std.specs.Prelude.{◌≡◌, ◌+◌, ◌++◌, ℕ, List, [], Bool, true, false};
 ghost use Rattle.std.specs.Prelude.{Option, Some, length, map, All, Contains};
 ghost use Rattle.gc_graph.specs.May.{members};
 ghost use Rattle.gc_graph.specs.Pause.{live_count, dead_count, is_dead_at, clear_slot};
@@ -47,7 +47,6 @@ impl OwnedRegion {
         requires handled { IsHandled objects.old.nodes self.old.taken }
         requires valid { AreOfValid (setup_of_objects objects.old) objects.old.nodes }
         requires marks { (may : List Bool) × HasMarking may objects.old }
-        requires few { length objects.old.nodes ≤ 1000000 }
         requires kinds { callback_kinds callbacks.now ≡ objects.old.callbacks }
         requires slots { (slots : List (Option ℕ)) × NamePlaces objects.old.nodes slots strong.now }
         requires kept { (p : ℕ) → Contains strong.now (Some p)

@@ -1,7 +1,7 @@
 // The handles of a heap in a collection: marking begins with what they name, and ends with the pause.
 
 ghost use Rattle.std.specs.Prelude.{◌≡◌, ℕ, List, Bool, Some, true, false, [], ◌+◌, ◌++◌};
-ghost use Rattle.std.specs.Prelude.{◌≤◌, length, map, All, Contains};
+ghost use Rattle.std.specs.Prelude.{length, map, All, Contains};
 ghost use Rattle.gc_graph.specs.May.{members};
 ghost use Rattle.gc_graph.specs.Reach.{Reach};
 ghost use Rattle.gc_graph.specs.State.{node_at, size_of, graph_of, IsLive};
@@ -81,7 +81,6 @@ impl Handles {
     ) -> Finished
         requires valid { AreOfValid (setup_of_objects objects.old) objects.old.nodes }
         requires marks { (may : List Bool) × HasMarking may objects.old }
-        requires few { length objects.old.nodes ≤ 1000000 }
         requires kinds { callback_kinds callbacks.now ≡ objects.old.callbacks }
         requires slots { self.old.places ≡ places_of_slots objects.old.nodes self.old.slots }
         requires weak { self.old.weak_places ≡ places_of_slots objects.old.nodes self.old.weak }

@@ -11,7 +11,7 @@ use Rattle.marker_core.specs.Bodies.{no_body}
 use Rattle.page_words.specs.Seat.{SeatView, IsView}
 use Rattle.page_words.specs.BodyPlaces.{same_body}
 use Rattle.pair_notes.specs.BodyGraph.{PlacesDiffer}
-use Rattle.nodes_in_words.specs.Nodes.{place_of, body_of, bodies_from, bodies_of, IsThere}
+use Rattle.nodes_in_words.specs.Nodes.{place_of, body_of, bodies_from, bodies_of, most_nodes, IsThere}
 use Rattle.nodes_in_words.specs.NodeBodies.{bodies-there, bodies-gone, node_of_body, body_of_node}
 
 pub live_is_there : (nodes : List Node) (n : ℕ) → IsLive nodes n → IsThere nodes n
@@ -78,7 +78,7 @@ places_differ nodes v view held =
     (differ_from (place_of nodes) 0 nodes (subst (λ bs. (b c : Body) → Contains bs b → Contains bs c → b.place ≡ c.place → b ≡ c) held (λ b c. same_body v b c view)))
 
 -- serial numbers are numbers of nodes
-pub serials_fit : (nodes : List Node) (v : SeatView) → v.bodies ≡ bodies_of nodes → length nodes ≤ 1000000 → All (λ (b : Body). b.serial < 2 ^ 32) v.bodies
+pub serials_fit : (nodes : List Node) (v : SeatView) → v.bodies ≡ bodies_of nodes → length nodes ≤ most_nodes → All (λ (b : Body). b.serial < 2 ^ 32) v.bodies
 serials_fit nodes v held few =
     All-from_get_or (λ (b : Body). b.serial < 2 ^ 32) v.bodies no_body
     (λ i low.

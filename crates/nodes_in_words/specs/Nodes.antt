@@ -1,5 +1,5 @@
 -- Which body each node has in the words.
-use Rattle.std.specs.Prelude.{◌≡◌, ℕ, suc, List, [], ◌∷◌, map, if◌then◌else◌}
+use Rattle.std.specs.Prelude.{◌≡◌, ℕ, ◌-◌, ◌^◌, suc, List, [], ◌∷◌, map, if◌then◌else◌}
 use Rattle.gc_graph.specs.declared.kind.Value.{Value}
 use Rattle.gc_graph.specs.declared.kind.Value.TheVariants.{Null, Ref, Word}
 use Rattle.gc_graph.specs.State.{Setup, State, Node, node_at, is_there, is_dead, size_of}
@@ -9,6 +9,10 @@ use Rattle.object_headers.specs.Offsets.{reference_to}
 use Rattle.marker_core.specs.declared.states.Body.{Body}
 use Rattle.marker_core.specs.Bodies.{holds}
 use Rattle.page_words.specs.Seat.{SeatView}
+
+-- how many nodes can be made: a number has 32 bits, and so has the count of those that were given out
+abbrev pub most_nodes : ℕ
+most_nodes = 2 ^ 32 - 1
 
 -- where the node with this number lies
 abbrev pub place_of : List Node → ℕ → ℕ

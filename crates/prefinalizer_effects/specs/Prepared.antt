@@ -7,7 +7,7 @@ use Rattle.gc_graph.specs.State.{Setup, ObjectType, Node, node_at}
 use Rattle.gc_graph.specs.ActionLaw.{AreTyped}
 use Rattle.page_words.specs.Seat.{SeatView}
 use Rattle.nodes_in_words.specs.Space.{SpaceView, IsSpaceOf}
-use Rattle.nodes_in_words.specs.Nodes.{IsThere, IsHeld}
+use Rattle.nodes_in_words.specs.Nodes.{IsThere, IsHeld, most_nodes}
 use Rattle.nodes_in_words.specs.Places.{BodiesAreJudged}
 
 -- what was set up
@@ -30,7 +30,7 @@ pub record IsPrepared (space : SpaceView) (types : List ObjectType) (v : SeatVie
   pub laid : IsSpaceOf space v
   pub off : v.on ≡ false
   pub held : IsHeld nodes v
-  pub few : length nodes ≤ 1000000
+  pub few : length nodes ≤ most_nodes
   pub typed : AreTyped (setup_in_space space types []) nodes
   pub named : AllNameThere nodes
   pub judged : BodiesAreJudged v

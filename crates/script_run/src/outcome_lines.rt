@@ -81,6 +81,7 @@ fn print_outcome<
     ensures taken { TookMore (K.written sink.old) (K.written sink.new) }
     ensures cause { FailsByFault (K.faults sink.old) (K.faults sink.new) result }
 {
+    heap.nodes_are_few();
     let count = heap.act(rt, command);
     if let Some(line) = heap.only_line() {
         return pieces.print(line, sink);
@@ -92,7 +93,7 @@ fn print_outcome<
 #[inline(never)]
 fn print_lines<K: Sink, G: Gate + Send + Sync + 'static>(
     heap: &mut Heap<'_, G>,
-    count: u32,
+    count: u64,
     pieces: &mut Pieces,
     sink: &mut K,
 ) -> Result<(), Failed>
@@ -104,7 +105,7 @@ fn print_lines<K: Sink, G: Gate + Send + Sync + 'static>(
     ensures cause { FailsByFault (K.faults sink.old) (K.faults sink.new) result }
 {
     let numbers = heap.finalised();
-    let first = numbers.len() as u32;
+    let first = numbers.len() as u64;
     match print_finalised(numbers, pieces, sink) {
         Ok(()) => {}
         Err(failed) => return Err(failed),

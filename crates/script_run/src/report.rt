@@ -152,6 +152,7 @@ fn do_all<R: Threads + Wait + Copy + Send + 'static, G: Gate + Send + Sync + 'st
     gc_graph::runs_are_replayed();
     gc_graph::steps_leave_threads();
     for command in commands {
+        heap.nodes_are_few();
         let _lines = heap.act(rt, command);
     }
 }

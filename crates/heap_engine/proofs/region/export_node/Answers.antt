@@ -1,8 +1,8 @@
-use Rattle.std.proofs.Common.{◌≡◌, ℕ, ◌+◌, get_or, None, Some, refl, sym, ap, ◌∙◌, subst}
+use Rattle.std.proofs.Common.{◌≡◌, ◌+◌, Some, refl, sym, ap, ◌∙◌, subst}
 use Rattle.gc_graph.specs.declared.region.Op.TheVariants as O
 use Rattle.heap_cycle.specs.Changes.{with_taken}
 use Rattle.heap_cycle.specs.Nodes.{place_of}
-use Rattle.heap_cycle.specs.Objects.{IsLiveAt, ObjectsView}
+use Rattle.heap_cycle.specs.Objects.{ObjectsView}
 use Rattle.heap_cycle.specs.Handled.{LooksAgain}
 use Rattle.heap_cycle.specs.declared.parts.Parts.{Parts}
 use Rattle.heap_cycle.specs.Parts.{counted, moment_of}
@@ -15,12 +15,11 @@ use Rattle.heap_engine.proofs.region.export_node.Given as given
 use Rattle.heap_engine.proofs.region.export_node.Goals as goal
 use Rattle.heap_engine.proofs.region.export_node.Goals.{After-drop-before}
 
--- the node at the place that the slot holds
-named : (g : given.Over) (c : goal.After-number_at-arg-1 g) → (n : ℕ) × (get_or c.args.parts.now.handles.slots c.args.p None ≡ Some n) × IsLiveAt c.args.parts.now.objects.nodes n c.in-Some.place
-named g c = slot_names c.args.parts.now c.args.p c.in-Some.place c.requires.ready (sym c.place.ensures ∙ c.in-Some.is)
-
-pub number_at-number-requires-clause-place : goal.number_at-number-requires-clause-place
-number_at-number-requires-clause-place g c = ((named g c).0, (named g c).2)
+-- the node stands at the place that the slot holds
+pub number_at-number-requires : goal.number_at-number-requires
+number_at-number-requires g c =
+    let is = slot_names c.args.parts.now c.args.p c.in-Some.place c.requires.ready (sym c.place.ensures ∙ c.in-Some.is) in
+    record { place = (is.0, is.2) }
 
 -- its number is told
 pub export-requires-clause-node : goal.export-requires-clause-node

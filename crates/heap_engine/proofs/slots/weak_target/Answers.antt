@@ -1,15 +1,14 @@
-use Rattle.std.proofs.Common.{ℕ, ◌≡◌, None, get_or, Some, option_map, sym, ap, ◌∙◌, subst}
+use Rattle.std.proofs.Common.{◌≡◌, Some, option_map, sym, ap, ◌∙◌, subst}
 use Rattle.heap_cycle.specs.Nodes.{place_of}
 use Rattle.heap_cycle.specs.Objects.{IsLiveAt}
 use Rattle.heap_cycle.specs.Ties.{weak_slot_names}
 use Rattle.heap_engine.proofs.slots.weak_target.Goals as goal
 
--- the node at the place that the weak slot holds
-named : (c : goal.After-number_at-arg-1) → (n : ℕ) × (get_or c.args.parts.now.handles.weak c.args.w None ≡ Some n) × IsLiveAt c.args.parts.now.objects.nodes n c.in-Some.place
-named c = weak_slot_names c.args.parts.now c.args.w c.in-Some.place c.requires.ready (sym c.weak_place.ensures ∙ c.in-Some.is)
-
-pub number_at-requires-clause-place : goal.number_at-requires-clause-place
-number_at-requires-clause-place c = ((named c).0, (named c).2)
+-- the node stands at the place that the weak slot holds
+pub number_at-requires : goal.number_at-requires
+number_at-requires c =
+    let is = weak_slot_names c.args.parts.now c.args.w c.in-Some.place c.requires.ready (sym c.weak_place.ensures ∙ c.in-Some.is) in
+    record { place = (is.0, is.2) }
 
 pub returns-in-Some-clause-target : goal.returns-in-Some-clause-target
 returns-in-Some-clause-target c =

@@ -9,11 +9,11 @@ use Rattle.heap_engine.proofs.StackSteps.{word_points, peek_pointer, peek_number
 use Rattle.heap_cycle.specs.Ties.{tied_slot}
 use Rattle.heap_engine.proofs.stacking.peek_word.Goals as goal
 
-pub number_at-number-requires-clause-place : goal.number_at-number-requires-clause-place
-number_at-number-requires-clause-place c =
+pub number_at-number-requires : goal.number_at-number-requires
+number_at-number-requires c =
     let is = word_points c.args.parts.now c.stack.result.now c.args.i c.in-Some-Some.place c.place.result c.requires.ready
     (record { lends = c.stack.ensures; tells = c.place.ensures }) (c.in-Some-Some.is ∙ ap Some c.in-Some-Some.field-0-is) in
-    (is.0, is.3)
+    record { place = (is.0, is.3) }
 
 pub returns-in-Some-Some-clause-step : goal.returns-in-Some-Some-clause-step
 returns-in-Some-Some-clause-step c =

@@ -1,9 +1,12 @@
-use Rattle.std.proofs.Common.{sym, ap, ◌∙◌, subst}
+use Rattle.std.proofs.Common.{sym, ap, ◌∙◌, subst, arith}
 use Rattle.gc_graph.specs.Report.{lines_bytes}
 use Rattle.text_devices.specs.Devices.{Writes}
 use Rattle.report_text.specs.Pieces.{with_held_back}
 use Rattle.script_run.proofs.Writing.{one_line}
 use Rattle.script_run.proofs.outcome_lines.print_outcome.Goals as goal
+
+pub act-count-requires-clause-numbered : goal.act-count-requires-clause-numbered
+act-count-requires-clause-numbered g c = λ p t e is. omega (arith, c.requires.few, c.nodes_are_few.ensures)
 
 pub returns-in-Some-clause-bytes : goal.returns-in-Some-clause-bytes
 returns-in-Some-clause-bytes g c =

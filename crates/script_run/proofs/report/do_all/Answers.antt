@@ -1,4 +1,4 @@
-use Rattle.std.proofs.Common.{refl, rules}
+use Rattle.std.proofs.Common.{refl, rules, arith}
 use Rattle.script_run.proofs.Printing.{section_at, sections_none, sections_after}
 use Rattle.script_run.proofs.Summaries.{ran_none, ran_more, ran_all}
 use Rattle.script_run.proofs.report.do_all.Goals as goal
@@ -11,6 +11,10 @@ loop-command-init g c = record {
   opened = c.requires.opened;
   ran = ran_none c.args.heap.now.core.setup c.args.commands.now c.args.heap.now.core c.requires.start c.requires.fresh;
 }
+
+pub act-lines-requires-clause-numbered : goal.act-lines-requires-clause-numbered
+act-lines-requires-clause-numbered g c = λ p t e is.
+    omega (arith, c.requires.few, c.loop-command-test.true, c.loop-command.invariant.ordinal, c.nodes_are_few.ensures)
 
 pub act-lines-requires-clause-section : goal.act-lines-requires-clause-section
 act-lines-requires-clause-section g c κs live =

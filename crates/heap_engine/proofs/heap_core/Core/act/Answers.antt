@@ -1,16 +1,15 @@
 mod Counted
-use Rattle.std.proofs.Common.{◌≡◌, ◌<◌, ◌+◌, ℕ, refl, true, false, List, [], All, length, sym, ap, ◌∙◌, subst, arith, rules, inl, inr, Some, None}
+use Rattle.std.proofs.Common.{◌≡◌, ◌+◌, ℕ, refl, true, false, List, [], All, length, sym, ap, ◌∙◌, subst, arith, rules, inl, inr, Some, None}
 use Rattle.std.proofs.lemmas.Bool.{true≢false}
 use mathlib.Core.Logic.{◌⊎◌}
 use Rattle.gc_graph.specs.Lawful.{IsAllowed}
 use Rattle.heap_cycle.specs.declared.parts.Parts.{Parts}
 use Rattle.heap_cycle.specs.Owned.{IsToldLine, OwnedView}
-use Rattle.heap_cycle.specs.Views.{CycleView}
 use Rattle.gc_graph.specs.declared.line.Line.{Line}
 use Rattle.heap_engine.specs.CarriedOut.{IsAsked, IsCarriedOut, IsCommandDone, IsOfJoin}
 use Rattle.heap_cycle.specs.Printed.{outcome_lines}
 use Rattle.heap_engine.specs.Ended.{last_line}
-use Rattle.heap_engine.proofs.CommandsDone.{asked_of, carried_out, few_ran, quiet}
+use Rattle.heap_engine.proofs.CommandsDone.{asked_of, carried_out, quiet}
 use Rattle.heap_engine.proofs.TotalsTold.{joined_alone}
 use Rattle.heap_engine.proofs.heap_core.Core.act.Given as given
 use Rattle.heap_engine.proofs.heap_core.Core.act.Goals as goal
@@ -29,23 +28,16 @@ done d c =
     c.nodes_stay_put.ensures c.shape_is_valid.ensures.some (rw (← c.self.view_is) at c.requires.allowed) c.self.invariant
     (rw (← c.self.view_is) at c.requires.opened) c.begin-2.ensures c.begin.ensures c.run.ensures.done
 
+pub run-requires-clause-numbered : goal.run-requires-clause-numbered
+run-requires-clause-numbered d c κs live = rw (← c.self.view_is) at c.requires.numbered
+
+not_none : (l : Line) → Some l ≡ None → ⊥
+not_none l same = cc
+
 pub count-requires : goal.count-requires
 count-requires d c =
     let is = done d (goal.at.count-requires d c).After-count_command in
-    let few : c.self.inside.parts.cycle.rest.ordinal < 1000000 = rw (← c.self.view_is) at c.requires.few in
-    record {
-      ended = λ none. not_none (last_line c.run.new.outcome) (sym is.ended ∙ none);
-      few = omega (
-        arith,
-        few_ran c.args.command.now (quiet c.self.inside.parts) c.run.new.parts c.begin.new.self c.run.new.outcome is few,
-        ap length c.ran.ensures,
-        ap (λ (p : Parts). length p.cycle.ran) c.publish.ensures,
-        ap (λ (k : CycleView). length k.ran) c.count_command.ensures,
-      );
-    }
-  where
-    not_none : (line : Line) → Some line ≡ None → ⊥
-    not_none line same = cc
+    record { ended = λ none. not_none (last_line c.run.new.outcome) (sym is.ended ∙ none) }
 
 -- a join's outcome has one line, and otherwise no more are told before it
 pub overflow_add-result : goal.overflow_add-result
@@ -53,8 +45,16 @@ overflow_add-result d c =
     let is = done d (goal.at.overflow_add-result d c).After-count_command in
     let told = ap (λ (p : Parts). length p.region.told) c.publish.ensures in
     elim is.region.joined [
-      | inl none ↦ omega (arith, c.told_count.ensures.count, told, ap length none, c.count.type_inv)
-      | inr join ↦ omega (arith, c.told_count.ensures.count, c.told_count.ensures.small, c.count.ensures, ap length (joined_alone c.run.new.outcome c.ran.result.now join))
+      | inl none ↦ omega (arith, c.from.ensures, c.told_count.ensures.count, told, ap length none, c.count.type_inv)
+      | inr join ↦
+          omega (
+            arith,
+            c.from.ensures,
+            c.told_count.ensures.count,
+            c.told_count.ensures.small,
+            c.count.ensures.count,
+            ap length (joined_alone c.run.new.outcome c.ran.result.now join),
+          )
     ]
 
 pub publish-requires : goal.publish-requires
@@ -63,8 +63,8 @@ publish-requires d c =
     let is = done d at in
     record {
       counted = O.counts d at is;
-      few = (O.ready d at is).most;
-      few_nodes = omega (arith, (O.ready d at is).tied.made, (O.ready d at is).most);
+      few = omega (arith, O.most d at is);
+      made = (O.ready d at is).tied.made;
       later = O.later d at is;
     }
 
@@ -78,7 +78,7 @@ invariant_of-self d c =
       manned = λ goes. O.manned_now d at is now c.publish.ensures;
       region = λ goes. O.region_now d at is now c.publish.ensures;
       joined_at_last = λ closed. absurd (true≢false (sym closed ∙ O.opened d at is));
-      most = (O.ready_now d at is now c.publish.ensures).most;
+      most = O.most_now d at is now c.publish.ensures;
       made = (O.ready_now d at is now c.publish.ensures).tied.made;
       none_out = O.none_out_now d at is now c.publish.ensures;
       board = O.board_now d at is now c.publish.ensures;
@@ -91,12 +91,15 @@ invariant_of-self d c =
 
 -- so many lines there are
 counted_lines : (d : given.Over) (c : After-count d)
-    → c.told_count.result + c.count.result ≡ length c.publish.new.parts.region.told + length (outcome_lines c.run.new.outcome c.publish.new.parts.cycle.ran)
+    → c.from.result + c.count.result ≡ length c.publish.new.parts.region.told + length (outcome_lines c.run.new.outcome c.publish.new.parts.cycle.ran)
 counted_lines d c =
-    omega (arith, c.told_count.ensures.count, c.count.ensures, ap (λ (r : List (ℕ × ℕ)). length (outcome_lines c.run.new.outcome r)) c.ran.ensures)
+    omega (arith, c.from.ensures, c.told_count.ensures.count, c.count.ensures.count, ap (λ (r : List (ℕ × ℕ)). length (outcome_lines c.run.new.outcome r)) c.ran.ensures)
 
 pub returns : goal.returns
 returns d c =
     let at : After-count_command d = (goal.at.returns d c).After-count_command in
     let lines = counted_lines d (goal.at.returns d c).After-count in
-    record { acted = rw (← c.self.view_is) (O.acted d at (done d at) c.publish.new.parts c.publish.ensures (c.told_count.result + c.count.result) lines) }
+    record {
+      acted = rw (← c.self.view_is) (O.acted d at (done d at) c.publish.new.parts c.publish.ensures (c.from.result + c.count.result) lines);
+      told = omega (arith, c.count.ensures.some);
+    }

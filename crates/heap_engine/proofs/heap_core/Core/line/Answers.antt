@@ -1,4 +1,4 @@
-use Rattle.std.proofs.Common.{◌≤◌, ◌-◌, ◌∙◌, ℕ, List, length, sym, ap, arith}
+use Rattle.std.proofs.Common.{◌≡◌, ◌≤◌, ◌-◌, ◌∙◌, ℕ, List, length, sym, ap, arith}
 use Rattle.std.specs.List.{slice_get}
 use Rattle.gc_graph.specs.declared.line.Line.{Line}
 use Rattle.heap_cycle.specs.Printed.{Printed, outcome_lines}
@@ -15,8 +15,9 @@ returns-clause-line c =
     let o : Printed = c.self.inside.outcome in
     let ran : List (ℕ × ℕ) = c.self.inside.parts.cycle.ran in
     let told : List Line = c.self.inside.parts.region.told in
-    let low : length told ≤ c.args.index = omega (arith, c.told_count-told.ensures.count, c.if-index-told.false) in
+    let count : c.from-told.result ≡ length told = c.from-told.ensures ∙ c.told_count.ensures.count in
+    let low : length told ≤ c.args.index = omega (arith, count, c.if-index-told.false) in
     rw (← c.self.view_is)
     (get_later told (outcome_lines o ran) c.args.index low
-    ∙ ap (λ n. slice_get (outcome_lines o ran) (c.args.index - n)) (sym c.told_count-told.ensures.count)
-    ∙ ap (λ (r : List (ℕ × ℕ)). slice_get (outcome_lines o r) (c.args.index - c.told_count-told.result)) (sym c.ran.ensures) ∙ c.line.ensures)
+    ∙ ap (λ n. slice_get (outcome_lines o ran) (c.args.index - n)) (sym count)
+    ∙ ap (λ (r : List (ℕ × ℕ)). slice_get (outcome_lines o r) (c.args.index - c.from-told.result)) (sym c.ran.ensures) ∙ c.line.ensures)

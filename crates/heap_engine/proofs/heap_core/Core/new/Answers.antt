@@ -1,4 +1,4 @@
-use Rattle.std.proofs.Common.{◌≡◌, ◌≤◌, ◌++◌, List, All, inl, length, sym, ap, ◌∙◌, subst, arith}
+use Rattle.std.proofs.Common.{◌≡◌, ◌-◌, ◌^◌, ◌≤◌, ◌++◌, List, All, inl, length, sym, ap, ◌∙◌, subst, arith}
 use Rattle.std.proofs.lemmas.Bool.{true≢false}
 use Rattle.std.proofs.lemmas.List.Elements.{All-nil}
 use Rattle.gc_graph.specs.State.{Shape, State}
@@ -35,7 +35,7 @@ invariant_of-result d c =
       ready = λ opened. ready_empty parts heap shape c.args.config.markers c.args.types (callback_kinds c.args.callbacks.now) c.empty_is_valid.ensures c.requires.called (are_empty d c);
       manned = λ opened. manned_empty parts heap shape c.args.config.markers c.args.types (callback_kinds c.args.callbacks.now) (are_empty d c);
       joined_at_last = λ closed. absurd (true≢false (sym closed));
-      most = subst (λ (s : Parts). s.cycle.rest.ordinal ≤ 1000000) (sym (are_empty d c)) (omega arith);
+      most = subst (λ (s : Parts). s.cycle.rest.ordinal ≤ 2 ^ 64 - 1) (sym (are_empty d c)) (omega arith);
       made = subst (λ (s : Parts). length s.objects.nodes ≤ s.cycle.rest.ordinal) (sym (are_empty d c)) (omega arith);
       region = λ opened. region_empty parts heap shape c.args.config.markers c.args.types (callback_kinds c.args.callbacks.now) (are_empty d c);
       none_out = λ still. ap (λ (s : Parts). s.region.out) (are_empty d c);

@@ -1,18 +1,18 @@
-use Rattle.std.proofs.Common.{◌≡◌, ℕ, ◌≤◌, ◌∙◌, refl, ap, arith}
+use Rattle.std.proofs.Common.{◌≡◌, ℕ, ◌-◌, ◌^◌, ◌≤◌, ◌∙◌, refl, ap, arith}
 use Rattle.gc_graph.specs.State.{State}
 use Rattle.heap_cycle.specs.declared.cycle.Counts.{Counts}
 use Rattle.heap_cycle.specs.Counts.{capped}
 use Rattle.heap_engine.proofs.heap_core.Core.summary.Goals as goal
 
--- a small count is whole
-whole : (n : ℕ) → n ≤ 1000000 → capped n ≡ n
+-- a count that fits its type is whole
+whole : (n : ℕ) → n ≤ 2 ^ 64 - 1 → capped n ≡ n
 whole n small = omega (arith, small)
 
 pub returns : goal.returns
 returns c =
     let rest : State = c.self.inside.parts.cycle.rest in
     let k : Counts = c.counts-counts.result in
-    let most : rest.ordinal ≤ 1000000 = c.self.invariant.most in
+    let most : rest.ordinal ≤ 2 ^ 64 - 1 = c.self.invariant.most in
     let ordinal : k.ordinal ≡ rest.ordinal = ap (λ (x : Counts). x.ordinal) c.counts-counts.ensures ∙ whole rest.ordinal most in
     let pauses : k.pauses ≡ rest.pauses =
     ap (λ (x : Counts). x.pauses) c.counts-counts.ensures ∙ whole rest.pauses (omega (arith, most, c.self.invariant.counted.pauses)) in

@@ -12,7 +12,7 @@ use Rattle.heap_objects.proofs.objects.Objects.finalise_page.Goals as goal
 pub page-swept-requires-clause-sweeping : goal.page-swept-requires-clause-sweeping
 page-swept-requires-clause-sweeping c =
     may_sweep c.self.inside.space c.self.inside.seat (arc_value c.self.inside.types) c.self.inside.kinds.value c.self.inside.made c.self.inside.grey c.self.inside.nodes.value c.args.sweep.now c.self.invariant
-    (rw (← c.self.view_is) at c.requires.rest).off (rw (← c.self.view_is) at c.requires.pages) (swept_is (cursor_at c.self.inside.space.shape c.args.sweep.now) c.self.inside.seat (rw (← c.self.view_is) at c.requires.marks)) (rw (← c.self.view_is) at c.requires.few)
+    (rw (← c.self.view_is) at c.requires.rest).off (rw (← c.self.view_is) at c.requires.pages) (swept_is (cursor_at c.self.inside.space.shape c.args.sweep.now) c.self.inside.seat (rw (← c.self.view_is) at c.requires.marks)) (omega (arith, c.self.invariant.numbers_are, c.self.ranges))
     (rw (← c.self.view_is) at c.requires.valid)
 
 -- the page at the cursor ends in the heap

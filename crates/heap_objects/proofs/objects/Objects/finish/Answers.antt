@@ -93,6 +93,9 @@ pub pause-result-requires-clause-may : goal.pause-result-requires-clause-may
 pause-result-requires-clause-may g c p there =
     ap (λ l. holds l p) c.gather-crew.ensures.joined.same.may ∙ (rw (← c.self.view_is) at c.requires.kept) p there
 
+pub pause-result-requires-clause-few : goal.pause-result-requires-clause-few
+pause-result-requires-clause-few g c = omega (arith, c.self.invariant.numbers_are, c.self.ranges)
+
 pub pause-result-requires-clause-traced : goal.pause-result-requires-clause-traced
 pause-result-requires-clause-traced g c =
     let marks = rw (← c.self.view_is) at c.requires.marks in

@@ -56,7 +56,7 @@ pub overflow_cast-number : goal.overflow_cast-number
 overflow_cast-number c =
     let is = rw (← c.self.view_is) at c.requires.reference in
     let read = number_at c is.0 is.1 in
-    omega (arith, read.2, number_fits c.self.inside.nodes.value read.0 (rw (← c.self.view_is) at c.requires.few) read.1.live)
+    omega (arith, read.2, number_fits c.self.inside.nodes.value read.0 (omega (arith, c.self.invariant.numbers_are, c.self.ranges)) read.1.live)
 
 pub returns-in-Some-clause-target : goal.returns-in-Some-clause-target
 returns-in-Some-clause-target c = rw (← c.self.view_is) (λ x is.

@@ -1,4 +1,4 @@
-use Rattle.std.proofs.Common.{List}
+use Rattle.std.proofs.Common.{List, arith}
 use Rattle.gc_graph.specs.State.{Node, node_at}
 use Rattle.atomic_pause.specs.Nodes.{place_of, body_of}
 use Rattle.atomic_pause.specs.NodePlaces.{live_is_there, node_body, serials_fit}
@@ -12,7 +12,7 @@ serial_at-requires-clause-start c =
 
 pub serial_at-requires-clause-serials : goal.serial_at-requires-clause-serials
 serial_at-requires-clause-serials c =
-    serials_fit c.self.inside.nodes.value c.self.inside.seat c.self.invariant.held.bodies (rw (← c.self.view_is) at c.requires.few)
+    serials_fit c.self.inside.nodes.value c.self.inside.seat c.self.invariant.held.bodies (omega (arith, c.self.invariant.numbers_are, c.self.ranges))
 
 pub returns-clause-number : goal.returns-clause-number
 returns-clause-number c = rw (← c.self.view_is) (λ n is.

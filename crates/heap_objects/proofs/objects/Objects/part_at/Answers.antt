@@ -14,25 +14,31 @@ read_pair-key-requires-clause-pair c =
     has_pair setup c.self.inside.nodes.value c.self.inside.seat is.0 is.1 c.args.field c.fields_stand_apart.ensures (rw (← c.self.view_is) at c.requires.valid)
     c.self.invariant.held.bodies c.self.invariant.known is.2 c.requires.pair
 
-pub named_by-requires-clause-reference : goal.named_by-requires-clause-reference
-named_by-requires-clause-reference c =
+pub named_by-requires : goal.named_by-requires
+named_by-requires c =
     let setup : Setup = record { shape = c.self.inside.space.shape; markers = c.self.inside.grey.crew.markers; types = (arc_value c.self.inside.types); callbacks = c.self.inside.kinds.value } in
     let nodes : List Node = c.self.inside.nodes.value in
-    let is = rw (← c.self.view_is) at c.requires.field in (
-      part_in P.Key nodes is.0 is.1,
-      reads_part setup nodes c.self.inside.seat is.0 is.1 c.args.field P.Key c.read_pair-key.result.0 (rw (← c.self.view_is) at c.requires.valid)
-          c.self.invariant.held.bodies is.2 c.requires.pair c.read_pair-key.ensures.key,
-    )
+    let is = rw (← c.self.view_is) at c.requires.field in
+    record {
+      reference = (
+        part_in P.Key nodes is.0 is.1,
+        reads_part setup nodes c.self.inside.seat is.0 is.1 c.args.field P.Key c.read_pair-key.result.0 (rw (← c.self.view_is) at c.requires.valid)
+            c.self.invariant.held.bodies is.2 c.requires.pair c.read_pair-key.ensures.key,
+      );
+    }
 
-pub named_by-requires-in-Value-clause-reference : goal.named_by-requires-in-Value-clause-reference
-named_by-requires-in-Value-clause-reference c =
+pub named_by-requires-in-Value : goal.named_by-requires-in-Value
+named_by-requires-in-Value c =
     let setup : Setup = record { shape = c.self.inside.space.shape; markers = c.self.inside.grey.crew.markers; types = (arc_value c.self.inside.types); callbacks = c.self.inside.kinds.value } in
     let nodes : List Node = c.self.inside.nodes.value in
-    let is = rw (← c.self.view_is) at c.requires.field in (
-      part_in P.Value nodes is.0 is.1,
-      reads_part setup nodes c.self.inside.seat is.0 is.1 c.args.field P.Value c.read_pair-key.result.1 (rw (← c.self.view_is) at c.requires.valid)
-          c.self.invariant.held.bodies is.2 c.requires.pair c.read_pair-key.ensures.value,
-    )
+    let is = rw (← c.self.view_is) at c.requires.field in
+    record {
+      reference = (
+        part_in P.Value nodes is.0 is.1,
+        reads_part setup nodes c.self.inside.seat is.0 is.1 c.args.field P.Value c.read_pair-key.result.1 (rw (← c.self.view_is) at c.requires.valid)
+            c.self.invariant.held.bodies is.2 c.requires.pair c.read_pair-key.ensures.value,
+      );
+    }
 
 pub returns-in-Key-clause-target : goal.returns-in-Key-clause-target
 returns-in-Key-clause-target c = rw (← c.self.view_is) (λ n f is.

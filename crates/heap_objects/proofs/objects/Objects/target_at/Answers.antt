@@ -14,15 +14,18 @@ get-reference-requires-clause-field c =
     holder_has_word setup c.self.inside.nodes.value c.self.inside.seat is.0 is.1 c.args.field is_reference c.fields_stand_apart.ensures
     (rw (← c.self.view_is) at c.requires.valid) c.self.invariant.held.bodies c.self.invariant.known is.2 c.requires.reference
 
-pub named_by-requires-clause-reference : goal.named_by-requires-clause-reference
-named_by-requires-clause-reference c =
+pub named_by-requires : goal.named_by-requires
+named_by-requires c =
     let setup : Setup = record { shape = c.self.inside.space.shape; markers = c.self.inside.grey.crew.markers; types = (arc_value c.self.inside.types); callbacks = c.self.inside.kinds.value } in
     let nodes : List Node = c.self.inside.nodes.value in
-    let is = rw (← c.self.view_is) at c.requires.field in (
-      value_in nodes is.0 is.1,
-      reads_reference setup nodes c.self.inside.seat is.0 is.1 c.args.field c.get-reference.result (rw (← c.self.view_is) at c.requires.valid)
-          c.self.invariant.held.bodies is.2 c.requires.reference c.get-reference.ensures.word,
-    )
+    let is = rw (← c.self.view_is) at c.requires.field in
+    record {
+      reference = (
+        value_in nodes is.0 is.1,
+        reads_reference setup nodes c.self.inside.seat is.0 is.1 c.args.field c.get-reference.result (rw (← c.self.view_is) at c.requires.valid)
+            c.self.invariant.held.bodies is.2 c.requires.reference c.get-reference.ensures.word,
+      );
+    }
 
 pub returns-clause-target : goal.returns-clause-target
 returns-clause-target c = rw (← c.self.view_is) (λ n f is.

@@ -1,5 +1,5 @@
 -- A command, once it is counted: what the heap then is, and what is owed of it.
-use Rattle.std.proofs.Common.{◌≡◌, ℕ, ◌<◌, true, false, [], ◌∷◌, ◌++◌, Option, Some, IfSome, length, drop, map, refl, sym, ap, ◌∙◌, subst, inl, inr, arith, ◌+◌, List}
+use Rattle.std.proofs.Common.{◌≡◌, ℕ, ◌-◌, ◌^◌, ◌<◌, ◌≤◌, true, false, [], ◌∷◌, ◌++◌, Option, Some, IfSome, length, drop, map, refl, sym, ap, ◌∙◌, subst, inl, inr, arith, ◌+◌, List}
 use Rattle.std.specs.List.{Contains}
 use Rattle.std.proofs.lemmas.List.{length-append}
 use Rattle.gc_graph.specs.declared.command.Command.{Command}
@@ -64,7 +64,6 @@ tied_published s tied = record {
   weak = tied.weak;
   stack = tied.stack;
   registered = tied.registered;
-  few = tied.few;
   sweep = tied.sweep;
   marks = tied.marks;
   traced = tied.traced;
@@ -78,7 +77,7 @@ module _
   pub opened : c.self.inside.closed ≡ false
   opened = rw (← c.self.view_is) at c.requires.opened
 
-  few : c.self.inside.parts.cycle.rest.ordinal < 1000000
+  few : c.self.inside.parts.cycle.rest.ordinal < 2 ^ 64 - 1
   few = rw (← c.self.view_is) at c.requires.few
 
   -- the step that the command is
@@ -129,8 +128,11 @@ module _
         valid = subst (λ u. IsValid u (answered (state_of c.run.new.parts))) (sym is.frame.setup) valid;
         called = subst (λ (u : Setup). HaveCallbacks (length u.callbacks) u.types) (sym is.frame.setup) was.called;
         tied = is.frame.tied;
-        most = omega (arith, is.frame.ordinal, few);
       })
+
+  -- and so few were counted that there can be a next one, or this was the last
+  pub most : c.count_command.new.self.rest.ordinal ≤ 2 ^ 64 - 1
+  most = omega (arith, ap (λ (k : CycleView). k.rest.ordinal) c.count_command.ensures, is.frame.ordinal, few)
 
   -- with the markers that ought to run
   pub manned : IsManned (record c.run.new.parts { cycle = c.count_command.new.self })
@@ -146,7 +148,7 @@ module _
   parts_are : record c.run.new.parts { cycle = c.count_command.new.self } ≡ counted c.run.new.parts
   parts_are = ap (λ (k : CycleView). record c.run.new.parts { cycle = k }) c.count_command.ensures
 
-  ordinal : c.count_command.new.self.rest.ordinal ≡ c.self.inside.parts.cycle.rest.ordinal + 1
+  pub ordinal : c.count_command.new.self.rest.ordinal ≡ c.self.inside.parts.cycle.rest.ordinal + 1
   ordinal = ap (λ (p : Parts). p.cycle.rest.ordinal) parts_are ∙ is.frame.ordinal
 
   -- what is counted stays within bounds
@@ -301,7 +303,10 @@ module _
   ready_now =
       let was = ready d c is in
       subst IsReady (sym parts_now)
-      (record { valid = was.valid; called = was.called; tied = tied_published (record c.run.new.parts { cycle = c.count_command.new.self }) was.tied; most = was.most })
+      (record { valid = was.valid; called = was.called; tied = tied_published (record c.run.new.parts { cycle = c.count_command.new.self }) was.tied })
+
+  pub most_now : now.cycle.rest.ordinal ≤ 2 ^ 64 - 1
+  most_now = subst (λ (p : Parts). p.cycle.rest.ordinal ≤ 2 ^ 64 - 1) (sym parts_now) (most d c is)
 
   pub manned_now : IsManned now
   manned_now = subst IsManned (sym parts_now) (manned d c is)
