@@ -10,6 +10,7 @@ ghost use Rattle.gc_graph.specs.Outcomes.{finalise_lines};
 ghost use Rattle.gc_graph.specs.Sections.{IsInSection};
 ghost use Rattle.gc_graph.specs.Lawful.{IsAllowed, IsEndLine, summary_line};
 ghost use Rattle.gc_graph.specs.Shapes.{IsShape};
+ghost use Rattle.gc_graph.specs.Valid.{IsValid};
 ghost use Rattle.callback_table.specs.Table.{callback_kinds};
 ghost use Rattle.heap_engine.specs.Acted.{HasNumber, IsActed};
 ghost use Rattle.heap_engine.specs.Going.{totals_of};
@@ -144,6 +145,14 @@ impl<'a, G: Gate + Send + Sync + 'static> Heap<'a, G> {
         ensures all { result.now ≡ finalised_in self.now.core.lines }
     {
         self.core.finalised()
+    }
+
+    /// The state of a heap that isn't closed is valid. Whoever calls this has the law.
+    pub fn is_valid(&self)
+        requires { self.now.core.closed ≡ false }
+        ensures { IsValid self.now.core.setup self.now.core.state }
+    {
+        self.core.is_valid();
     }
 
     /// No more nodes were made than commands were done. Whoever calls this has the law.

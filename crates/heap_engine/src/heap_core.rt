@@ -11,6 +11,7 @@ ghost use Rattle.gc_graph.specs.Sections.{IsInSection};
 ghost use Rattle.gc_graph.specs.Outcomes.{finalise_lines};
 ghost use Rattle.gc_graph.specs.Lawful.{IsAllowed, IsEndLine, summary_line};
 ghost use Rattle.gc_graph.specs.Shapes.{IsShape};
+ghost use Rattle.gc_graph.specs.Valid.{IsValid};
 ghost use Rattle.callback_table.specs.Table.{callback_kinds};
 ghost use Rattle.heap_engine.specs.Acted.{HasNumber, IsActed};
 ghost use Rattle.heap_engine.specs.Going.{totals_of};
@@ -182,6 +183,13 @@ impl Core {
         ensures all { result.now ≡ finalised_in self.now.lines }
     {
         self.outcome.finalised()
+    }
+
+    pub fn is_valid(&self)
+        requires { self.now.closed ≡ false }
+        ensures { IsValid self.now.setup self.now.state }
+    {
+        let _parts = &self.parts;
     }
 
     pub fn nodes_are_few(&self)
