@@ -1,5 +1,6 @@
 pub mod Finalising
 pub mod Printed
+pub mod LastLine
 pub mod Counts
 pub mod Views
 pub mod Walks

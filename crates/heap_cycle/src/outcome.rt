@@ -1,7 +1,7 @@
 // The outcome of a command: finalised nodes, then at most one more line, and then the prefinalizers
 // that it ran. It takes no memory after it was made.
 
-ghost use Rattle.std.specs.Prelude.{◌≡◌, ◌++◌, ◌<◌, ◌==◌, not, [], length, Some, false};
+ghost use Rattle.std.specs.Prelude.{◌≡◌, ◌-◌, ◌++◌, ◌<◌, ◌==◌, not, [], length, Some, false};
 ghost use Rattle.std.specs.Prelude.{ℕ, List, ◌∷◌, None, IfOk, IfSome, IfNone, slice_get};
 ghost use Rattle.gc_graph.specs.declared.line.Line.{Line};
 ghost use Rattle.gc_graph.specs.declared.line.Line.TheVariants as L;
@@ -93,6 +93,22 @@ impl Outcome {
             0
         };
         self.finalised.len() as u64 + 1 + prefinalised
+    }
+
+    /// The last of the lines, where the last pause ran these prefinalizers.
+    pub fn last_line(&self, ran: &[(u32, u32)]) -> Line
+        requires ended { self.now.last ≡ None → ⊥ }
+        requires ran { TellsThoseThatRan self.now ran.now }
+        ensures { slice_get (outcome_lines self.now ran.now)
+            (length (outcome_lines self.now ran.now) - 1) ≡ Some result }
+    {
+        if self.prefinalises {
+            return prefinalise_line(ran[ran.len() - 1]);
+        }
+        match &self.last {
+            Some(line) => *line,
+            None => unreachable!(),
+        }
     }
 
     /// The line of the outcome, where it has one alone, unless that tells a finalised node or a

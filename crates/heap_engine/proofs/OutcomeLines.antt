@@ -1,7 +1,7 @@
 -- The lines of an outcome: those of a command that finalises nothing and runs no prefinalizer, and those that tell a finalised node.
-use Rattle.std.proofs.Common.{◌≡◌, ℕ, Bool, true, false, List, [], ◌∷◌, ◌++◌, Option, Some, None, IfSome, refl, sym, ap, ◌∙◌}
+use Rattle.std.proofs.Common.{◌≡◌, ℕ, ◌<◌, Bool, true, false, List, [], ◌∷◌, ◌++◌, length, Option, Some, None, IfSome, refl, sym, ap, ◌∙◌, arith}
 use Rattle.std.specs.Option.{option_to_list}
-use Rattle.std.proofs.lemmas.List.{append-nil}
+use Rattle.std.proofs.lemmas.List.{append-nil, length-append}
 use Rattle.gc_graph.specs.declared.line.Line.{Line}
 use Rattle.gc_graph.specs.declared.line.Line.TheVariants as L
 use Rattle.gc_graph.specs.declared.phase.Phase.{Phase}
@@ -24,6 +24,13 @@ ended_alone o new ran line is numbers calm = ap (λ (x : Printed). outcome_lines
 -- an outcome that has ended tells its last line between the finalised nodes and the prefinalizers
 pub ended_lines : (o : Printed) (ran : List (ℕ × ℕ)) → IsEnded o → outcome_lines o ran ≡ lines_with o ran (last_line o)
 ended_lines o ran ended = ap (λ (l : Option Line). finalise_lines o.numbers ++ (option_to_list l ++ ran_lines o.prefinalises ran)) ended
+
+-- and so it tells a line
+pub some_told : (o : Printed) (ran : List (ℕ × ℕ)) → (o.last ≡ None → ⊥) → 0 < length (outcome_lines o ran)
+some_told o ran ended = omega (arith, length-append (finalise_lines o.numbers) (later_lines o ran), later o.last ended) where
+  later : (last : Option Line) → (last ≡ None → ⊥) → 0 < length (option_to_list last ++ ran_lines o.prefinalises ran)
+  later None some = absurd (some refl)
+  later (Some l) some = omega arith
 
 -- ---- what lines tell as finalised
 

@@ -1,5 +1,5 @@
 -- How a heap's fields are seen, and what is true of them.
-use Rattle.std.specs.Prelude.{◌≡◌, ◌⊎◌, ◌*◌, ◌-◌, ◌^◌, ◌≤◌, true, false, [], ◌++◌, length, drop, All}
+use Rattle.std.specs.Prelude.{◌≡◌, ◌⊎◌, ◌*◌, ◌-◌, ◌^◌, ◌≤◌, true, false, [], ◌++◌, None, length, drop, All}
 use Rattle.gc_graph.specs.ThreadLaw.{IsCounted}
 use Rattle.marker_core.specs.Bodies.{holds}
 use Rattle.heap_cycle.specs.Pages.{word_count}
@@ -51,8 +51,8 @@ view_of h = record {
 
 -- while the heap isn't closed the parts are ready, with the markers that ought to run, and the region belongs to them; once it is closed
 -- no marker runs, no seat is lent and no pass is out; the board has the totals of the state, and had those of each one since the threads went; the lines that a
--- join told are replies and entries, behind which the outcome has its last line alone; the outcome is one of a command, and has room for
--- all nodes that a sweep can finalise; and what is counted stays within bounds
+-- join told are replies and entries, behind which the outcome has its last line alone; the outcome is one of a command, without whose
+-- last line nothing is told, and has room for all nodes that a sweep can finalise; and what is counted stays within bounds
 pub record IsSound (h : Inside) : Type 0 where
   pub ready : h.closed ≡ false → IsReady h.parts
   pub manned : h.closed ≡ false → IsManned h.parts
@@ -66,4 +66,5 @@ pub record IsSound (h : Inside) : Type 0 where
   pub joined : (h.parts.region.told ≡ []) ⊎ IsOfJoin h.outcome
   pub counted : IsCounted (state_of h.parts)
   pub told : IsOutcome h.outcome h.parts.cycle.ran
+  pub untold : h.outcome.last ≡ None → h.parts.region.told ++ outcome_lines h.outcome h.parts.cycle.ran ≡ []
   pub room : word_count h.parts.objects.shape ≤ 2 * h.outcome.room

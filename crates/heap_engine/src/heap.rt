@@ -119,6 +119,26 @@ impl<'a, G: Gate + Send + Sync + 'static> Heap<'a, G> {
         count
     }
 
+    /// Runs a command as `act` does, and tells the last line of its outcome.
+    pub fn ask<R: Threads + Wait + Copy + Send + 'static>(
+        &mut self,
+        rt: &R,
+        command: &Command,
+    ) -> Line
+        requires few { self.old.core.state.ordinal < 2 ^ 64 - 1 }
+        requires numbered { HasNumber self.old.core.state.nodes command.now }
+        requires opened { self.old.core.closed ≡ false }
+        requires allowed { IsAllowed (length self.old.core.setup.types) command.now }
+        requires section { IsInSection self.old.core.state.awaiting command.now }
+        ensures acted { IsActed self.old.core self.new.core command.now
+            (length self.new.core.lines) }
+        ensures line { slice_get self.new.core.lines (length self.new.core.lines - 1)
+            ≡ Some result }
+    {
+        let _count = self.act(rt, command);
+        self.core.last_line()
+    }
+
     /// A line of the last outcome.
     pub fn line(&mut self, index: u64) -> Line
         requires { index < length self.old.core.lines }

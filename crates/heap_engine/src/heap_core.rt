@@ -177,6 +177,13 @@ impl Core {
         self.outcome.only_line()
     }
 
+    pub fn last_line(&self) -> Line
+        requires { 0 < length self.now.lines }
+        ensures { slice_get self.now.lines (length self.now.lines - 1) ≡ Some result }
+    {
+        self.outcome.last_line(self.parts.cycle.ran())
+    }
+
     pub fn finalised(&self) -> &[u32]
         ensures few { length result.now ≤ length self.now.lines }
         ensures lines { take (length result.now) self.now.lines ≡ finalise_lines result.now }

@@ -86,6 +86,7 @@ invariant_of-self d c =
       joined = subst (λ (told : List Line). (told ≡ []) ⊎ IsOfJoin c.run.new.outcome) (sym (O.same_now d at is now c.publish.ensures)) is.region.joined;
       counted = O.counts_now d at is now c.publish.ensures;
       told = O.told_now d at is now c.publish.ensures;
+      untold = λ none. absurd (not_none (last_line c.run.new.outcome) (sym is.ended ∙ none));
       room = search rules;
     }
 

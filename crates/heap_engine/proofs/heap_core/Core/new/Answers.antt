@@ -45,6 +45,9 @@ invariant_of-result d c =
       replies = subst (λ (s : Parts). All IsToldLine s.region.told) (sym (are_empty d c)) (All-nil IsToldLine);
       joined = inl (ap (λ (s : Parts). s.region.told) (are_empty d c));
       counted = counted_empty parts heap shape c.args.config.markers c.args.types (callback_kinds c.args.callbacks.now) (are_empty d c);
+      untold = λ none.
+          ap (λ (s : Parts). s.region.told ++ outcome_lines c.in_ok-outcome.outcome c.new-cycle.result.ran) (are_empty d c)
+          ∙ ap (λ (o : Printed). outcome_lines o c.new-cycle.result.ran) c.in_ok-outcome.ensures;
       told = subst (λ (o : Printed). IsOutcome o c.new-cycle.result.ran) (sym c.in_ok-outcome.ensures) (record { ran_some = λ runs. cc; last_plain = tt });
       room = omega (arith, ap (λ (o : Printed). o.room) c.in_ok-outcome.ensures, c.word_count.ensures);
     }
