@@ -21,12 +21,13 @@ regrouped groups i g new same = ap (set groups i) same ∙ set-get_or groups i g
 
 pub settle_at-requires-clause-ready : goal.settle_at-requires-clause-ready
 settle_at-requires-clause-ready g c =
-    let groups : slice_set c.args.self.now.groups.now c.args.i c.index_notes.new.self ≡ c.args.self.now.groups.now =
-    regrouped c.args.self.now.groups.now c.args.i c.index-self-i.result c.index_notes.new.self c.index_notes.ensures.notes in
+    let tracer = c.args.self.now in
+    let groups : slice_set tracer.groups.now c.args.i c.index_notes.new.self ≡ tracer.groups.now =
+    regrouped tracer.groups.now c.args.i c.index-self-i.result c.index_notes.new.self c.index_notes.ensures.notes in
     record {
       heap = ap (λ (v : SeatView). v.heap) c.index_notes.ensures.view ∙ c.requires.ready.heap;
-      ground = subst (λ gs. IsGround c.args.self.now.types.now (stage c.index_notes.new.seat c.args.self.now.marking.now gs c.args.self.now.traced)) (sym groups)
-          (ground_looked c.args.self.now.seat.now c.index_notes.new.seat c.index_notes.ensures.view c.args.self.now.types.now c.args.self.now.marking.now c.args.self.now.groups.now c.args.self.now.traced c.requires.ready.ground);
+      ground = subst (λ gs. IsGround tracer.types.now (stage c.index_notes.new.seat tracer.marking.now gs tracer.traced)) (sym groups)
+          (ground_looked tracer.seat.now c.index_notes.new.seat c.index_notes.ensures.view tracer.types.now tracer.marking.now tracer.groups.now tracer.traced c.requires.ready.ground);
     }
 
 -- the notes are of fields, whose words are no headers
@@ -40,12 +41,13 @@ not_looked types v w m groups i n g low ground beside =
 
 pub loop-j-init : goal.loop-j-init
 loop-j-init g c =
-    let groups : slice_set c.args.self.now.groups.now c.args.i c.index_notes.new.self ≡ c.args.self.now.groups.now =
-    regrouped c.args.self.now.groups.now c.args.i c.index-self-i.result c.index_notes.new.self c.index_notes.ensures.notes in
+    let tracer = c.args.self.now in
+    let groups : slice_set tracer.groups.now c.args.i c.index_notes.new.self ≡ tracer.groups.now =
+    regrouped tracer.groups.now c.args.i c.index-self-i.result c.index_notes.new.self c.index_notes.ensures.notes in
     let keeps = c.settle_at.ensures.keeps in
-    let types = c.args.self.now.types.now in
+    let types = tracer.types.now in
     let now = stage_of c.settle_at.new.self in
-    let mid = stage c.index_notes.new.seat c.args.self.now.marking.now c.args.self.now.groups.now c.args.self.now.traced in
+    let mid = stage c.index_notes.new.seat tracer.marking.now tracer.groups.now tracer.traced in
     record {
       keeps = record {
         space = keeps.space;
@@ -55,18 +57,20 @@ loop-j-init g c =
         groups = keeps.groups;
         ready = keeps.ready;
       };
-      looked = subst (λ (v : SeatView). LooksOnward types (stage v c.args.self.now.marking.now c.args.self.now.groups.now c.args.self.now.traced) now)
-          (not_looked types c.args.self.now.seat.now c.index_notes.new.seat c.args.self.now.marking.now c.args.self.now.groups.now c.args.i c.args.self.now.traced c.index-self-i.result
+      looked = subst (λ (v : SeatView). LooksOnward types (stage v tracer.marking.now tracer.groups.now tracer.traced) now)
+          (not_looked types tracer.seat.now c.index_notes.new.seat tracer.marking.now tracer.groups.now c.args.i tracer.traced c.index-self-i.result
           c.requires.group c.requires.ready.ground c.index_notes.ensures.beside)
-          (subst (λ gs. LooksOnward types (stage c.index_notes.new.seat c.args.self.now.marking.now gs c.args.self.now.traced) now) groups c.settle_at.ensures.looked);
+          (subst (λ gs. LooksOnward types (stage c.index_notes.new.seat tracer.marking.now gs tracer.traced) now) groups c.settle_at.ensures.looked);
       works = Works-then types None _ mid now
-          (looks_none c.args.self.now.seat.now c.index_notes.new.seat c.index_notes.ensures.view types c.args.self.now.marking.now c.args.self.now.groups.now c.args.self.now.traced).works
-          (subst (λ gs. Works types None (stage c.index_notes.new.seat c.args.self.now.marking.now gs c.args.self.now.traced) now) groups c.settle_at.ensures.looks.works);
+          (looks_none tracer.seat.now c.index_notes.new.seat c.index_notes.ensures.view types tracer.marking.now tracer.groups.now tracer.traced).works
+          (subst (λ gs. Works types None (stage c.index_notes.new.seat tracer.marking.now gs tracer.traced) now) groups c.settle_at.ensures.looks.works);
     }
 
 pub loop-j-preserved : goal.loop-j-preserved
-loop-j-preserved g c = record {
-  keeps = Keeps-then c.args.self.now c.loop-j.self c.settle_at-in-loop-j.new.self c.loop-j.invariant.keeps c.settle_at-in-loop-j.ensures.keeps;
-  works = Advances-then c.args.self.now c.loop-j.self c.settle_at-in-loop-j.new.self c.loop-j.invariant.keeps c.loop-j.invariant.works c.settle_at-in-loop-j.ensures.looks.works;
-  looked = GoesOnward-then c.args.self.now c.loop-j.self c.settle_at-in-loop-j.new.self c.loop-j.invariant.keeps c.settle_at-in-loop-j.ensures.looks.works c.loop-j.invariant.looked c.settle_at-in-loop-j.ensures.looked;
-}
+loop-j-preserved g c =
+    let tracer = c.args.self.now in
+    record {
+      keeps = Keeps-then tracer c.loop-j.self c.settle_at-in-loop-j.new.self c.loop-j.invariant.keeps c.settle_at-in-loop-j.ensures.keeps;
+      works = Advances-then tracer c.loop-j.self c.settle_at-in-loop-j.new.self c.loop-j.invariant.keeps c.loop-j.invariant.works c.settle_at-in-loop-j.ensures.looks.works;
+      looked = GoesOnward-then tracer c.loop-j.self c.settle_at-in-loop-j.new.self c.loop-j.invariant.keeps c.settle_at-in-loop-j.ensures.looks.works c.loop-j.invariant.looked c.settle_at-in-loop-j.ensures.looked;
+    }

@@ -29,9 +29,10 @@ word_of-key-requires-clause-field g c =
 
 pub names_marked-requires-clause-reference : goal.names_marked-requires-clause-reference
 names_marked-requires-clause-reference g c =
-    let has : BodyHasPair c.args.self.now.types.now c.args.self.now.seat.now.bodies c.args.holder c.args.word = c.requires.pair in
+    let tracer = c.args.self.now in
+    let has : BodyHasPair tracer.types.now tracer.seat.now.bodies c.args.holder c.args.word = c.requires.pair in
     rw (c.word_of-key.ensures.view, ap (λ (u : SeatView). u.bodies) c.is_marked.ensures.view)
-    (key_reference c.args.self.now.types.now c.args.self.now.seat.now.bodies c.args.holder c.args.word c.word_of-key.result c.requires.ready.ground.references has
+    (key_reference tracer.types.now tracer.seat.now.bodies c.args.holder c.args.word c.word_of-key.result c.requires.ready.ground.references has
     (c.word_of-key.ensures.word has.0 (rw (ap (λ (u : SeatView). u.bodies) c.is_marked.ensures.view) has.1) has.2))
 
 -- what was looked at before the value is loaded
@@ -39,52 +40,59 @@ looked : (v first key second value : SeatView) → OnlyLooked v first → key �
 looked v first key second value one two three four = ap unlooked four ∙ three ∙ ap unlooked two ∙ one
 
 pub returns-then-not-is_marked-clause-keeps : goal.returns-then-not-is_marked-clause-keeps
-returns-then-not-is_marked-clause-keeps g c = record {
-  space = refl;
-  types = refl;
-  seat = refl;
-  marking = refl;
-  groups = refl;
-  ready = record {
-    heap = ap (λ (v : SeatView). v.heap) c.is_marked.ensures.view ∙ c.requires.ready.heap;
-    ground = ground_looked c.args.self.now.seat.now c.is_marked.new.seat c.is_marked.ensures.view c.args.self.now.types.now c.args.self.now.marking.now c.args.self.now.groups.now c.args.self.now.traced
-        c.requires.ready.ground;
-  };
-}
+returns-then-not-is_marked-clause-keeps g c =
+    let tracer = c.args.self.now in
+    record {
+      space = refl;
+      types = refl;
+      seat = refl;
+      marking = refl;
+      groups = refl;
+      ready = record {
+        heap = ap (λ (v : SeatView). v.heap) c.is_marked.ensures.view ∙ c.requires.ready.heap;
+        ground = ground_looked tracer.seat.now c.is_marked.new.seat c.is_marked.ensures.view tracer.types.now tracer.marking.now tracer.groups.now tracer.traced
+            c.requires.ready.ground;
+      };
+    }
 
 pub returns-then-not-is_marked-clause-looks : goal.returns-then-not-is_marked-clause-looks
 returns-then-not-is_marked-clause-looks g c =
-    looks_none c.args.self.now.seat.now c.is_marked.new.seat c.is_marked.ensures.view c.args.self.now.types.now c.args.self.now.marking.now c.args.self.now.groups.now c.args.self.now.traced
+    let tracer = c.args.self.now in
+    looks_none tracer.seat.now c.is_marked.new.seat c.is_marked.ensures.view tracer.types.now tracer.marking.now tracer.groups.now tracer.traced
 
 pub returns-then-not-names_marked-clause-keeps : goal.returns-then-not-names_marked-clause-keeps
-returns-then-not-names_marked-clause-keeps g c = record {
-  space = refl;
-  types = refl;
-  seat = refl;
-  marking = refl;
-  groups = refl;
-  ready = record {
-    heap = ap (λ (v : SeatView). v.heap) (c.names_marked.ensures.view ∙ ap unlooked c.word_of-key.ensures.view ∙ c.is_marked.ensures.view) ∙ c.requires.ready.heap;
-    ground = ground_looked c.args.self.now.seat.now c.names_marked.new.seat
-        (c.names_marked.ensures.view ∙ ap unlooked c.word_of-key.ensures.view ∙ c.is_marked.ensures.view) c.args.self.now.types.now c.args.self.now.marking.now c.args.self.now.groups.now
-        c.args.self.now.traced c.requires.ready.ground;
-  };
-}
+returns-then-not-names_marked-clause-keeps g c =
+    let tracer = c.args.self.now in
+    record {
+      space = refl;
+      types = refl;
+      seat = refl;
+      marking = refl;
+      groups = refl;
+      ready = record {
+        heap = ap (λ (v : SeatView). v.heap) (c.names_marked.ensures.view ∙ ap unlooked c.word_of-key.ensures.view ∙ c.is_marked.ensures.view) ∙ c.requires.ready.heap;
+        ground = ground_looked tracer.seat.now c.names_marked.new.seat
+            (c.names_marked.ensures.view ∙ ap unlooked c.word_of-key.ensures.view ∙ c.is_marked.ensures.view) tracer.types.now tracer.marking.now tracer.groups.now
+            tracer.traced c.requires.ready.ground;
+      };
+    }
 
 pub returns-then-not-names_marked-clause-looks : goal.returns-then-not-names_marked-clause-looks
 returns-then-not-names_marked-clause-looks g c =
-    looks_none c.args.self.now.seat.now c.names_marked.new.seat
-    (c.names_marked.ensures.view ∙ ap unlooked c.word_of-key.ensures.view ∙ c.is_marked.ensures.view) c.args.self.now.types.now c.args.self.now.marking.now c.args.self.now.groups.now
-    c.args.self.now.traced
+    let tracer = c.args.self.now in
+    looks_none tracer.seat.now c.names_marked.new.seat
+    (c.names_marked.ensures.view ∙ ap unlooked c.word_of-key.ensures.view ∙ c.is_marked.ensures.view) tracer.types.now tracer.marking.now tracer.groups.now
+    tracer.traced
 
 pub returns-then-not-names_marked-clause-settled : goal.returns-then-not-names_marked-clause-settled
 returns-then-not-names_marked-clause-settled g c told =
-    let same : OnlyLooked c.args.self.now.seat.now c.names_marked.new.seat =
+    let tracer = c.args.self.now in
+    let same : OnlyLooked tracer.seat.now c.names_marked.new.seat =
     c.names_marked.ensures.view ∙ ap unlooked c.word_of-key.ensures.view ∙ c.is_marked.ensures.view in
-    settled_stays c.args.self.now.types.now (stage c.args.self.now.seat.now c.args.self.now.marking.now c.args.self.now.groups.now c.args.self.now.traced)
-    (stage c.names_marked.new.seat c.args.self.now.marking.now c.args.self.now.groups.now c.args.self.now.traced)
-    (stage_looked c.args.self.now.seat.now c.names_marked.new.seat same c.args.self.now.types.now c.args.self.now.marking.now c.args.self.now.groups.now c.args.self.now.traced) (note_of c.args.holder c.args.word)
-    (pair_settled c.args.self.now.types.now c.args.self.now.seat.now c.args.holder c.args.word c.requires.pair (λ b k w there at key value holder_marked key_marked.
+    settled_stays tracer.types.now (stage tracer.seat.now tracer.marking.now tracer.groups.now tracer.traced)
+    (stage c.names_marked.new.seat tracer.marking.now tracer.groups.now tracer.traced)
+    (stage_looked tracer.seat.now c.names_marked.new.seat same tracer.types.now tracer.marking.now tracer.groups.now tracer.traced) (note_of c.args.holder c.args.word)
+    (pair_settled tracer.types.now tracer.seat.now c.args.holder c.args.word c.requires.pair (λ b k w there at key value holder_marked key_marked.
     (let is_key : c.word_of-key.result ≡ word_at b c.args.word = c.word_of-key.ensures.word b (rw (ap (λ (u : SeatView). u.bodies) c.is_marked.ensures.view) there) at in
     let yes_marked : c.names_marked.result ≡ true =
     c.names_marked.ensures.named k (is_key ∙ key) ∙ rw (c.word_of-key.ensures.view, ap (λ (u : SeatView). u.marked) c.is_marked.ensures.view) key_marked in
@@ -108,15 +116,16 @@ word_of-value-requires-clause-field g c =
 
 pub mark_reference-requires-clause-may : goal.mark_reference-requires-clause-may
 mark_reference-requires-clause-may g c p names =
-    let v = c.args.self.now.seat.now in
-    let has : BodyHasPair c.args.self.now.types.now v.bodies c.args.holder c.args.word = c.requires.pair in
+    let tracer = c.args.self.now in
+    let v = tracer.seat.now in
+    let has : BodyHasPair tracer.types.now v.bodies c.args.holder c.args.word = c.requires.pair in
     let is_key : c.word_of-key.result ≡ word_at has.0 c.args.word = c.word_of-key.ensures.word has.0 (rw (ap (λ (u : SeatView). u.bodies) c.is_marked.ensures.view) has.1) has.2 in
     let is_value : c.word_of-value.result ≡ word_at has.0 (c.args.word + 1) = c.word_of-value.ensures.word has.0
     (rw (ap (λ (u : SeatView). u.bodies) c.names_marked.ensures.view, c.word_of-key.ensures.view, ap (λ (u : SeatView). u.bodies) c.is_marked.ensures.view) has.1) has.2 in
     let key = marked_key v c.word_of-key.result c.names_marked.result
-    (key_reference c.args.self.now.types.now v.bodies c.args.holder c.args.word c.word_of-key.result c.requires.ready.ground.references has is_key)
+    (key_reference tracer.types.now v.bodies c.args.holder c.args.word c.word_of-key.result c.requires.ready.ground.references has is_key)
     (rw (c.word_of-key.ensures.view, ap (λ (u : SeatView). u.marked) c.is_marked.ensures.view) at c.names_marked.ensures.named) c.names_marked.ensures.null c.if-not-names_marked.false in
-    subst (λ (u : SeatView). holds u.may p ≡ true) (sym (looked c.args.self.now.seat.now c.is_marked.new.seat c.word_of-key.new.seat c.names_marked.new.seat c.word_of-value.new.seat c.is_marked.ensures.view
+    subst (λ (u : SeatView). holds u.may p ≡ true) (sym (looked tracer.seat.now c.is_marked.new.seat c.word_of-key.new.seat c.names_marked.new.seat c.word_of-value.new.seat c.is_marked.ensures.view
     c.word_of-key.ensures.view c.names_marked.ensures.view c.word_of-value.ensures.view))
     (value_may v has.0 c.args.word key.0 p c.bodies_lie_apart.ensures c.requires.ready.ground.on has.1
     (subst (λ (ts : List ObjectType). Contains (pair_offsets ts has.0) c.args.word) (sym c.requires.ready.ground.known) has.3)
@@ -124,63 +133,67 @@ mark_reference-requires-clause-may g c p names =
     (sym is_value ∙ names))
 
 pub returns-clause-keeps : goal.returns-clause-keeps
-returns-clause-keeps g c = record {
-  space = refl;
-  types = refl;
-  seat = refl;
-  marking = refl;
-  groups = refl;
-  ready = record {
-    heap = ap (λ (v : SeatView). v.heap) c.mark_reference.ensures.marks.view
-        ∙ ap (λ (v : SeatView). v.heap) (looked c.args.self.now.seat.now c.is_marked.new.seat c.word_of-key.new.seat c.names_marked.new.seat c.word_of-value.new.seat
-        c.is_marked.ensures.view c.word_of-key.ensures.view c.names_marked.ensures.view c.word_of-value.ensures.view) ∙ c.requires.ready.heap;
-    ground = marks_ground c.args.self.now.types.now c.word_of-value.new.seat c.mark_reference.new.seat c.args.self.now.marking.now c.mark_reference.new.marking c.args.self.now.groups.now c.args.self.now.traced
-        c.mark_reference.ensures.marks
-        (ground_looked c.args.self.now.seat.now c.word_of-value.new.seat (looked c.args.self.now.seat.now c.is_marked.new.seat c.word_of-key.new.seat c.names_marked.new.seat c.word_of-value.new.seat c.is_marked.ensures.view
-        c.word_of-key.ensures.view c.names_marked.ensures.view c.word_of-value.ensures.view) c.args.self.now.types.now c.args.self.now.marking.now c.args.self.now.groups.now c.args.self.now.traced c.requires.ready.ground);
-  };
-}
+returns-clause-keeps g c =
+    let tracer = c.args.self.now in
+    record {
+      space = refl;
+      types = refl;
+      seat = refl;
+      marking = refl;
+      groups = refl;
+      ready = record {
+        heap = ap (λ (v : SeatView). v.heap) c.mark_reference.ensures.marks.view
+            ∙ ap (λ (v : SeatView). v.heap) (looked tracer.seat.now c.is_marked.new.seat c.word_of-key.new.seat c.names_marked.new.seat c.word_of-value.new.seat
+            c.is_marked.ensures.view c.word_of-key.ensures.view c.names_marked.ensures.view c.word_of-value.ensures.view) ∙ c.requires.ready.heap;
+        ground = marks_ground tracer.types.now c.word_of-value.new.seat c.mark_reference.new.seat tracer.marking.now c.mark_reference.new.marking tracer.groups.now tracer.traced
+            c.mark_reference.ensures.marks
+            (ground_looked tracer.seat.now c.word_of-value.new.seat (looked tracer.seat.now c.is_marked.new.seat c.word_of-key.new.seat c.names_marked.new.seat c.word_of-value.new.seat c.is_marked.ensures.view
+            c.word_of-key.ensures.view c.names_marked.ensures.view c.word_of-value.ensures.view) tracer.types.now tracer.marking.now tracer.groups.now tracer.traced c.requires.ready.ground);
+      };
+    }
 
 pub returns-clause-looks : goal.returns-clause-looks
 returns-clause-looks g c =
-    let same : OnlyLooked c.args.self.now.seat.now c.word_of-value.new.seat = looked c.args.self.now.seat.now c.is_marked.new.seat c.word_of-key.new.seat c.names_marked.new.seat c.word_of-value.new.seat c.is_marked.ensures.view
+    let tracer = c.args.self.now in
+    let same : OnlyLooked tracer.seat.now c.word_of-value.new.seat = looked tracer.seat.now c.is_marked.new.seat c.word_of-key.new.seat c.names_marked.new.seat c.word_of-value.new.seat c.is_marked.ensures.view
     c.word_of-key.ensures.view c.names_marked.ensures.view c.word_of-value.ensures.view in
-    let has : BodyHasPair c.args.self.now.types.now c.args.self.now.seat.now.bodies c.args.holder c.args.word = c.requires.pair in
+    let has : BodyHasPair tracer.types.now tracer.seat.now.bodies c.args.holder c.args.word = c.requires.pair in
     let is_key : c.word_of-key.result ≡ word_at has.0 c.args.word = c.word_of-key.ensures.word has.0 (rw (ap (λ (u : SeatView). u.bodies) c.is_marked.ensures.view) has.1) has.2 in
     let is_value : c.word_of-value.result ≡ word_at has.0 (c.args.word + 1) = c.word_of-value.ensures.word has.0
     (rw (ap (λ (u : SeatView). u.bodies) c.names_marked.ensures.view, c.word_of-key.ensures.view, ap (λ (u : SeatView). u.bodies) c.is_marked.ensures.view) has.1) has.2 in
-    let key = marked_key c.args.self.now.seat.now c.word_of-key.result c.names_marked.result
-    (key_reference c.args.self.now.types.now c.args.self.now.seat.now.bodies c.args.holder c.args.word c.word_of-key.result c.requires.ready.ground.references has is_key)
+    let key = marked_key tracer.seat.now c.word_of-key.result c.names_marked.result
+    (key_reference tracer.types.now tracer.seat.now.bodies c.args.holder c.args.word c.word_of-key.result c.requires.ready.ground.references has is_key)
     (rw (c.word_of-key.ensures.view, ap (λ (u : SeatView). u.marked) c.is_marked.ensures.view) at c.names_marked.ensures.named) c.names_marked.ensures.null c.if-not-names_marked.false in
-    let within : GrowsWithin c.args.self.now.types.now c.args.self.now.seat.now c.mark_reference.new.seat =
-    pair_within c.args.self.now.types.now c.args.self.now.seat.now c.mark_reference.new.seat has.0 c.args.word key.0 has.1
-    (subst (λ p. holds c.args.self.now.seat.now.marked p ≡ true) (sym has.2) (sym c.is_marked.ensures.mark ∙ c.if-not-is_marked.false)) has.3 (sym is_key ∙ key.1) key.2
+    let within : GrowsWithin tracer.types.now tracer.seat.now c.mark_reference.new.seat =
+    pair_within tracer.types.now tracer.seat.now c.mark_reference.new.seat has.0 c.args.word key.0 has.1
+    (subst (λ p. holds tracer.seat.now.marked p ≡ true) (sym has.2) (sym c.is_marked.ensures.mark ∙ c.if-not-is_marked.false)) has.3 (sym is_key ∙ key.1) key.2
     (λ p marked. elim (c.mark_reference.ensures.only p marked) [
       | inl old ↦ inl (ap (λ (u : SeatView). holds u.marked p) (sym same) ∙ old)
       | inr is ↦ inr (sym is_value ∙ is)
     ]) in
     let here = c.word_of-value.new.seat in
-    Looks-then c.args.self.now.types.now None _ (stage here c.args.self.now.marking.now c.args.self.now.groups.now c.args.self.now.traced) _ false c.mark_reference.result
-    (looks_none c.args.self.now.seat.now here same c.args.self.now.types.now c.args.self.now.marking.now c.args.self.now.groups.now c.args.self.now.traced)
+    Looks-then tracer.types.now None _ (stage here tracer.marking.now tracer.groups.now tracer.traced) _ false c.mark_reference.result
+    (looks_none tracer.seat.now here same tracer.types.now tracer.marking.now tracer.groups.now tracer.traced)
     (record {
-      works = marks_work c.args.self.now.types.now here c.mark_reference.new.seat c.args.self.now.marking.now c.mark_reference.new.marking c.args.self.now.groups.now c.args.self.now.traced
-          c.mark_reference.ensures.marks (grows_from here c.args.self.now.seat.now (sym same) c.args.self.now.types.now c.mark_reference.new.seat within);
-      lighter = λ found. marks_lighter here c.mark_reference.new.seat c.args.self.now.marking.now c.mark_reference.new.marking c.args.self.now.groups.now c.args.self.now.traced
+      works = marks_work tracer.types.now here c.mark_reference.new.seat tracer.marking.now c.mark_reference.new.marking tracer.groups.now tracer.traced
+          c.mark_reference.ensures.marks (grows_from here tracer.seat.now (sym same) tracer.types.now c.mark_reference.new.seat within);
+      lighter = λ found. marks_lighter here c.mark_reference.new.seat tracer.marking.now c.mark_reference.new.marking tracer.groups.now tracer.traced
           c.mark_reference.ensures.marks (c.mark_reference.ensures.found found);
-      still = λ none. marks_still here c.mark_reference.new.seat c.args.self.now.marking.now c.mark_reference.new.marking c.args.self.now.groups.now c.args.self.now.traced
+      still = λ none. marks_still here c.mark_reference.new.seat tracer.marking.now c.mark_reference.new.marking tracer.groups.now tracer.traced
           (c.mark_reference.ensures.still none);
     })
 
 pub returns-clause-settled : goal.returns-clause-settled
 returns-clause-settled g c told =
-    let bodies : c.mark_reference.new.seat.bodies ≡ c.args.self.now.seat.now.bodies =
-    same_bodies c.word_of-value.new.seat c.mark_reference.new.seat c.args.self.now.marking.now c.mark_reference.new.marking c.mark_reference.ensures.marks
-    ∙ ap (λ (v : SeatView). v.bodies) (looked c.args.self.now.seat.now c.is_marked.new.seat c.word_of-key.new.seat c.names_marked.new.seat c.word_of-value.new.seat c.is_marked.ensures.view
+    let tracer = c.args.self.now in
+    let bodies : c.mark_reference.new.seat.bodies ≡ tracer.seat.now.bodies =
+    same_bodies c.word_of-value.new.seat c.mark_reference.new.seat tracer.marking.now c.mark_reference.new.marking c.mark_reference.ensures.marks
+    ∙ ap (λ (v : SeatView). v.bodies) (looked tracer.seat.now c.is_marked.new.seat c.word_of-key.new.seat c.names_marked.new.seat c.word_of-value.new.seat c.is_marked.ensures.view
     c.word_of-key.ensures.view c.names_marked.ensures.view c.word_of-value.ensures.view) in
-    pair_settled c.args.self.now.types.now c.mark_reference.new.seat c.args.holder c.args.word
-    (subst (λ bs. BodyHasPair c.args.self.now.types.now bs c.args.holder c.args.word) (sym bodies) c.requires.pair)
+    pair_settled tracer.types.now c.mark_reference.new.seat c.args.holder c.args.word
+    (subst (λ bs. BodyHasPair tracer.types.now bs c.args.holder c.args.word) (sym bodies) c.requires.pair)
     (λ b k w there at key value holder_marked key_marked.
-    (let before : Contains c.args.self.now.seat.now.bodies b = subst (λ bs. Contains bs b) bodies there in
+    (let before : Contains tracer.seat.now.bodies b = subst (λ bs. Contains bs b) bodies there in
     let is_value : c.word_of-value.result ≡ word_at b (c.args.word + 1) = c.word_of-value.ensures.word b
     (rw (ap (λ (u : SeatView). u.bodies) c.names_marked.ensures.view, c.word_of-key.ensures.view, ap (λ (u : SeatView). u.bodies) c.is_marked.ensures.view) before) at in
     c.mark_reference.ensures.target w (is_value ∙ value)))
@@ -207,41 +220,44 @@ both_looked types v first key second w holder offset word has one same two is la
 
 pub returns-then-not-is_marked-clause-looked : goal.returns-then-not-is_marked-clause-looked
 returns-then-not-is_marked-clause-looked g c here =
-    let v = c.args.self.now.seat.now in
+    let tracer = c.args.self.now in
+    let v = tracer.seat.now in
     let u = c.is_marked.new.seat in
     let marked : u.marked ≡ v.marked = ap (λ (x : SeatView). x.marked) c.is_marked.ensures.view in
-    onward_looked c.args.self.now.types.now v u c.args.self.now.marking.now c.args.self.now.groups.now c.args.self.now.traced c.args.self.now.traced marked
-    (looked_once (IsLookedAt c.args.self.now.types.now u) v u c.args.holder c.is_marked.ensures.looked
+    onward_looked tracer.types.now v u tracer.marking.now tracer.groups.now tracer.traced tracer.traced marked
+    (looked_once (IsLookedAt tracer.types.now u) v u c.args.holder c.is_marked.ensures.looked
     (inl (subst (λ l. holds l c.args.holder ≡ true) (sym marked) here)))
 
 pub returns-then-not-names_marked-clause-looked : goal.returns-then-not-names_marked-clause-looked
 returns-then-not-names_marked-clause-looked g c here =
-    let v = c.args.self.now.seat.now in
+    let tracer = c.args.self.now in
+    let v = tracer.seat.now in
     let w = c.names_marked.new.seat in
     let same : OnlyLooked v w = c.names_marked.ensures.view ∙ ap unlooked c.word_of-key.ensures.view ∙ c.is_marked.ensures.view in
-    let has : BodyHasPair c.args.self.now.types.now v.bodies c.args.holder c.args.word = c.requires.pair in
+    let has : BodyHasPair tracer.types.now v.bodies c.args.holder c.args.word = c.requires.pair in
     let is_key : c.word_of-key.result ≡ word_at has.0 c.args.word = c.word_of-key.ensures.word has.0 (rw (ap (λ (u : SeatView). u.bodies) c.is_marked.ensures.view) has.1) has.2 in
     let marked : w.marked ≡ v.marked = ap (λ (x : SeatView). x.marked) same in
-    onward_looked c.args.self.now.types.now v w c.args.self.now.marking.now c.args.self.now.groups.now c.args.self.now.traced c.args.self.now.traced marked
-    (both_looked c.args.self.now.types.now v c.is_marked.new.seat c.word_of-key.new.seat w w c.args.holder c.args.word c.word_of-key.result has
+    onward_looked tracer.types.now v w tracer.marking.now tracer.groups.now tracer.traced tracer.traced marked
+    (both_looked tracer.types.now v c.is_marked.new.seat c.word_of-key.new.seat w w c.args.holder c.args.word c.word_of-key.result has
     c.is_marked.ensures.looked c.word_of-key.ensures.view c.names_marked.ensures.looked is_key refl (ap (λ (x : SeatView). x.bodies) same)
     (subst (λ l. holds l c.args.holder ≡ true) (sym marked) here))
 
 pub returns-clause-looked : goal.returns-clause-looked
 returns-clause-looked g c here =
-    let v = c.args.self.now.seat.now in
+    let tracer = c.args.self.now in
+    let v = tracer.seat.now in
     let u = c.word_of-value.new.seat in
     let w = c.mark_reference.new.seat in
-    let same : OnlyLooked v u = looked c.args.self.now.seat.now c.is_marked.new.seat c.word_of-key.new.seat c.names_marked.new.seat c.word_of-value.new.seat
+    let same : OnlyLooked v u = looked tracer.seat.now c.is_marked.new.seat c.word_of-key.new.seat c.names_marked.new.seat c.word_of-value.new.seat
     c.is_marked.ensures.view c.word_of-key.ensures.view c.names_marked.ensures.view c.word_of-value.ensures.view in
-    let has : BodyHasPair c.args.self.now.types.now v.bodies c.args.holder c.args.word = c.requires.pair in
+    let has : BodyHasPair tracer.types.now v.bodies c.args.holder c.args.word = c.requires.pair in
     let is_key : c.word_of-key.result ≡ word_at has.0 c.args.word = c.word_of-key.ensures.word has.0 (rw (ap (λ (u : SeatView). u.bodies) c.is_marked.ensures.view) has.1) has.2 in
     let marked : u.marked ≡ v.marked = ap (λ (x : SeatView). x.marked) same in
     let bodies : w.bodies ≡ v.bodies =
-    same_bodies u w c.args.self.now.marking.now c.mark_reference.new.marking c.mark_reference.ensures.marks ∙ ap (λ (x : SeatView). x.bodies) same in
-    onward_marks c.args.self.now.types.now v u w c.args.self.now.marking.now c.mark_reference.new.marking c.args.self.now.groups.now c.args.self.now.groups.now c.args.self.now.traced c.args.self.now.traced marked
+    same_bodies u w tracer.marking.now c.mark_reference.new.marking c.mark_reference.ensures.marks ∙ ap (λ (x : SeatView). x.bodies) same in
+    onward_marks tracer.types.now v u w tracer.marking.now c.mark_reference.new.marking tracer.groups.now tracer.groups.now tracer.traced tracer.traced marked
     c.mark_reference.ensures.marks c.args.holder (λ note there. inl there) here
-    (both_looked c.args.self.now.types.now v c.is_marked.new.seat c.word_of-key.new.seat c.names_marked.new.seat w c.args.holder c.args.word c.word_of-key.result has
+    (both_looked tracer.types.now v c.is_marked.new.seat c.word_of-key.new.seat c.names_marked.new.seat w c.args.holder c.args.word c.word_of-key.result has
     c.is_marked.ensures.looked c.word_of-key.ensures.view c.names_marked.ensures.looked is_key
     (c.mark_reference.ensures.looked ∙ ap (λ (x : SeatView). x.looked) c.word_of-value.ensures.view) bodies
     (c.mark_reference.ensures.marks.marked c.args.holder (subst (λ l. holds l c.args.holder ≡ true) (sym marked) here)))

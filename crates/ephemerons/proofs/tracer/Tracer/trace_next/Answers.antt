@@ -10,18 +10,21 @@ use Rattle.ephemerons.proofs.tracer.Tracer.trace_next.Given as given
 use Rattle.ephemerons.proofs.tracer.Tracer.trace_next.Goals as goal
 
 pub trace_grey-requires-clause-ready : goal.trace_grey-requires-clause-ready
-trace_grey-requires-clause-ready g c = record {
-  heap = c.requires.ready.heap;
-  ground = (ground_popped c.args.self.now.types.now (stage_of c.args.self.now) c.pop.new.self.items c.in-Some.place
-      (refusals_of (record c.args.self.now.marking.now { list = c.pop.new.self })) (mode_of (record c.args.self.now.marking.now { list = c.pop.new.self }))
-      c.in-Some.ensures.items (mode_popped c.args.self.now.marking.now c.pop.new.self c.requires.ready.ground.whole c.pop.ensures.whole c.pop.ensures.shares) c.requires.ready.ground).0;
-}
+trace_grey-requires-clause-ready g c =
+    let tracer = c.args.self.now in
+    record {
+      heap = c.requires.ready.heap;
+      ground = (ground_popped tracer.types.now (stage_of tracer) c.pop.new.self.items c.in-Some.place
+          (refusals_of (record tracer.marking.now { list = c.pop.new.self })) (mode_of (record tracer.marking.now { list = c.pop.new.self }))
+          c.in-Some.ensures.items (mode_popped tracer.marking.now c.pop.new.self c.requires.ready.ground.whole c.pop.ensures.whole c.pop.ensures.shares) c.requires.ready.ground).0;
+    }
 
 pub trace_grey-requires-clause-place : goal.trace_grey-requires-clause-place
 trace_grey-requires-clause-place g c =
-    (ground_popped c.args.self.now.types.now (stage_of c.args.self.now) c.pop.new.self.items c.in-Some.place
-    (refusals_of (record c.args.self.now.marking.now { list = c.pop.new.self })) (mode_of (record c.args.self.now.marking.now { list = c.pop.new.self }))
-    c.in-Some.ensures.items (mode_popped c.args.self.now.marking.now c.pop.new.self c.requires.ready.ground.whole c.pop.ensures.whole c.pop.ensures.shares) c.requires.ready.ground).1
+    let tracer = c.args.self.now in
+    (ground_popped tracer.types.now (stage_of tracer) c.pop.new.self.items c.in-Some.place
+    (refusals_of (record tracer.marking.now { list = c.pop.new.self })) (mode_of (record tracer.marking.now { list = c.pop.new.self }))
+    c.in-Some.ensures.items (mode_popped tracer.marking.now c.pop.new.self c.requires.ready.ground.whole c.pop.ensures.whole c.pop.ensures.shares) c.requires.ready.ground).1
 
 -- the object that was taken from the list is traced
 keeps : (g : given.Over) (c : goal.After-settle_under g) → Keeps g.B.Bodywords.heap c.args.self.now c.trace_grey.new.self
@@ -31,13 +34,15 @@ keeps g c =
 
 works : (g : given.Over) (c : goal.After-settle_under g) → Advances c.args.self.now c.trace_grey.new.self
 works g c =
-    Works-popped c.args.self.now.types.now (stage_of c.args.self.now) (stage_of c.trace_grey.new.self) c.pop.new.self.items c.in-Some.place c.pop.new.self.refused
-    (mode_of (record c.args.self.now.marking.now { list = c.pop.new.self })) c.in-Some.ensures.items c.pop.ensures.refused (mode_popped c.args.self.now.marking.now c.pop.new.self c.requires.ready.ground.whole c.pop.ensures.whole c.pop.ensures.shares) c.trace_grey.ensures.looks.works
+    let tracer = c.args.self.now in
+    Works-popped tracer.types.now (stage_of tracer) (stage_of c.trace_grey.new.self) c.pop.new.self.items c.in-Some.place c.pop.new.self.refused
+    (mode_of (record tracer.marking.now { list = c.pop.new.self })) c.in-Some.ensures.items c.pop.ensures.refused (mode_popped tracer.marking.now c.pop.new.self c.requires.ready.ground.whole c.pop.ensures.whole c.pop.ensures.shares) c.trace_grey.ensures.looks.works
 
 looked : (g : given.Over) (c : goal.After-settle_under g) → GoesOnward c.args.self.now c.trace_grey.new.self
 looked g c =
-    onward_popped c.args.self.now.types.now (stage_of c.args.self.now) (stage_of c.trace_grey.new.self) c.pop.new.self.items c.in-Some.place
-    (refusals_of (record c.args.self.now.marking.now { list = c.pop.new.self })) (mode_of (record c.args.self.now.marking.now { list = c.pop.new.self })) c.in-Some.ensures.items
+    let tracer = c.args.self.now in
+    onward_popped tracer.types.now (stage_of tracer) (stage_of c.trace_grey.new.self) c.pop.new.self.items c.in-Some.place
+    (refusals_of (record tracer.marking.now { list = c.pop.new.self })) (mode_of (record tracer.marking.now { list = c.pop.new.self })) c.in-Some.ensures.items
     c.trace_grey.ensures.looked
 
 pub returns-in-Some-clause-keeps : goal.returns-in-Some-clause-keeps
