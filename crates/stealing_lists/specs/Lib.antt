@@ -1,0 +1,1 @@
+-- Nothing: what is said of lists, mark_worklist says.
