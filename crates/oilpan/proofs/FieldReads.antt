@@ -1,0 +1,57 @@
+-- What a command leaves that reads a field into a slot.
+use Rattle.std.proofs.Common.{◌≡◌, ◌≢◌, ◌<◌, ℕ, Bool, true, false, true≢false, List, length, Option, Some, None, Result, Ok, Err, refl, sym, ap, ◌∙◌, subst, get_or}
+use Rattle.std.specs.Prelude.{IfOk, IfErr, IfSome}
+use Rattle.gc_graph.specs.declared.command.Command.{Command}
+use Rattle.gc_graph.specs.declared.command.Command.TheVariants as C
+use Rattle.gc_graph.specs.declared.line.Line.{Line}
+use Rattle.gc_graph.specs.declared.line.Line.TheVariants as L
+use Rattle.gc_graph.specs.declared.line.Refusal.TheVariants as R
+use Rattle.gc_graph.specs.declared.region.Entry.{Entry}
+use Rattle.gc_graph.specs.State.{Setup, State, Node}
+use Rattle.gc_graph.specs.Fields.{is_reference, is_pair}
+use Rattle.gc_graph.specs.Outcomes.{answered, slot_at}
+use Rattle.gc_graph.specs.Commands.{SpeaksOf, WritesSlot}
+use Rattle.gc_graph.specs.ClearingLaw.{first_held, second_held}
+use Rattle.gc_graph.specs.HandleLaw.{Means, IsTurnedDown, reads_weakly}
+use Rattle.oilpan.specs.declared.errors.FieldError.{FieldError}
+use Rattle.oilpan.specs.declared.errors.FieldError.TheVariants as F
+use Rattle.oilpan.specs.declared.handles.Root.{Root}
+use Rattle.oilpan.specs.Asked.{IsAsked, ReadsInto, is_read, is_of_face, line_of_read, line_of_roots, why_of}
+use Rattle.oilpan.proofs.Fielding.{names, names_none}
+
+-- a slot that some command speaks of holds a node
+option_there : (o : Option ℕ) → (o ≡ None → ⊥) → (n : ℕ) × (o ≡ Some n)
+option_there None h = absurd (h refl)
+option_there (Some n) h = (n, refl)
+
+pub reads_one : (slot : ℕ) (command : Command) → ReadsInto slot command → (z : ℕ) → WritesSlot command z → z ≡ slot
+reads_one slot (C.Get p f q) h z writes = writes ∙ h
+reads_one slot (C.Key p f q) h z writes = writes ∙ h
+reads_one slot (C.Val p f q) h z writes = writes ∙ h
+reads_one slot command h z writes = absurd h
+
+module _ (setup : Setup) (old new : State) (piece : List Entry) (lines : List Line) (slot : ℕ) (low : slot < length old.slots) where
+  -- where null was read, the slot is null
+  pub null_read : (command : Command) → ReadsInto slot command → (SpeaksOf old command None → ⊥) → Means setup old command piece lines new L.Null
+      → slot_at new slot ≡ None
+  null_read (C.Get p f q) into held h =
+      let there = option_there (slot_at old p) held in
+      subst (λ z. slot_at new z ≡ None) into
+      (names_none old new (C.Get p f q) is_reference p f there.0 there.1 first_held q (λ k. reads_weakly old f k) (subst (λ z. z < length old.slots) (sym into) low) h)
+  null_read (C.Key p f q) into held h =
+      let there = option_there (slot_at old p) held in
+      subst (λ z. slot_at new z ≡ None) into
+      (names_none old new (C.Key p f q) is_pair p f there.0 there.1 first_held q (λ k. true) (subst (λ z. z < length old.slots) (sym into) low) h)
+  null_read (C.Val p f q) into held h =
+      let there = option_there (slot_at old p) held in
+      subst (λ z. slot_at new z ≡ None) into
+      (names_none old new (C.Val p f q) is_pair p f there.0 there.1 second_held q (λ k. true) (subst (λ z. z < length old.slots) (sym into) low) h)
+  null_read command into held h = absurd into
+
+  -- where the command was refused, the slot is what it was
+  pub refused_read : (command : Command) (why : FieldError) → ReadsInto slot command → slot_at old slot ≡ None
+      → Means setup old command piece lines new (L.Refused (why_of why)) → slot_at new slot ≡ None
+  refused_read (C.Get p f q) why into null h = ap (λ (s : State). slot_at s slot) h.after ∙ null
+  refused_read (C.Key p f q) why into null h = ap (λ (s : State). slot_at s slot) h.after ∙ null
+  refused_read (C.Val p f q) why into null h = ap (λ (s : State). slot_at s slot) h.after ∙ null
+  refused_read command why into null h = absurd into

@@ -1,0 +1,10 @@
+mod Lives
+mod Resting
+mod Frames
+mod Commands
+mod Fielding
+mod Keeping
+mod Making
+mod Slots
+mod Cycling
+mod FieldReads

@@ -1,0 +1,20 @@
+-- What programs see of a heap's handles.
+use Rattle.std.specs.Prelude.{◌≡◌, ℕ, ◌+◌, ◌-◌, ◌^◌, ◌≤◌, Bool, true, List, Option, Some, slice_index_or}
+use Rattle.gc_graph.specs.State.{State}
+use Rattle.gc_graph.specs.Outcomes.{slot_at}
+use Rattle.gc_graph.specs.HandleLaw.{TellsLife}
+use Rattle.oilpan.specs.declared.handles.Root.{Root}
+use Rattle.oilpan.specs.declared.handles.WeakRoot.{WeakRoot}
+
+-- the heap can do so many commands more
+abbrev pub HasRoom : State → ℕ → Type 0
+HasRoom s count = s.ordinal + count ≤ 2 ^ 64 - 1
+
+-- the root's slot names its node
+abbrev pub Holds : State → Root → Type 0
+Holds s r = slot_at s r.slot ≡ Some r.node
+
+-- the weak root's slot is given out, and names its node as long as that lives, and then nothing
+pub record Watches (s : State) (watched : List Bool) (w : WeakRoot) : Type 0 where
+  pub given : slice_index_or watched w.slot true ≡ true
+  pub tells : TellsLife s w.slot w.node

@@ -1,0 +1,59 @@
+// Why a call did nothing.
+
+ghost use Rattle.std.specs.Prelude.{◌≡◌};
+ghost use Rattle.oilpan.specs.GetErrors.{get_error};
+
+use thiserror::Error;
+
+/// Which handles are all given out: 256 roots, 64 weak roots, 32 shared ones.
+#[derive(Clone, Copy, Debug, PartialEq, Eq, Drop, Error)]
+pub enum HandleError {
+    #[error("all roots are given out")]
+    Roots,
+    #[error("all weak roots are given out")]
+    WeakRoots,
+    #[error("all shared roots are given out")]
+    SharedRoots,
+}
+
+/// Why no object was made. Only a type with prefinalizers wants memory.
+#[derive(Clone, Copy, Debug, PartialEq, Eq, Drop, Error)]
+pub enum MakeError {
+    #[error("the heap is full")]
+    Full,
+    #[error("no memory")]
+    Memory,
+    #[error("all roots are given out")]
+    Handles,
+}
+
+/// Why a field wasn't written.
+#[derive(Clone, Copy, Debug, PartialEq, Eq, Drop, Error)]
+pub enum FieldError {
+    #[error("the object has no such field")]
+    Field,
+    #[error("the field is of another kind")]
+    Kind,
+}
+
+/// Why a field wasn't read into a root.
+#[derive(Clone, Copy, Debug, PartialEq, Eq, Drop, Error)]
+pub enum GetError {
+    #[error("the object has no such field")]
+    Field,
+    #[error("the field is of another kind")]
+    Kind,
+    #[error("all roots are given out")]
+    Handles,
+}
+
+impl From<FieldError> for GetError {
+    ghost from_gives = { λ why error. error ≡ get_error why };
+
+    fn from(why: FieldError) -> GetError {
+        match why {
+            FieldError::Field => GetError::Field,
+            FieldError::Kind => GetError::Kind,
+        }
+    }
+}

@@ -1,0 +1,81 @@
+// The heap that a program embeds.
+
+ghost use Rattle.std.specs.Prelude.{◌≡◌, ◌≤◌, false, length, IfOk};
+ghost use Rattle.gc_graph.specs.Shapes.{IsShape};
+ghost use Rattle.gc_graph.specs.State.{empty_state};
+ghost use Rattle.gc_graph.specs.Valid.{IsValid};
+ghost use Rattle.gc_graph.specs.Lawful.{IsEndLine};
+ghost use Rattle.callback_table.specs.Table.{callback_kinds};
+ghost use Rattle.heap_engine.specs.Objects.{HaveCallbacks};
+ghost use Rattle.oilpan.specs.Rest.{IsAtRest};
+
+use crate::options::HeapOptions;
+use callback_table::CallbackTable;
+use gc_graph::{Line, NoMemory, empty_is_valid};
+use heap_engine::{Config, Gate, Heap};
+use std::alloc::Global;
+use std::sync::{Arc, Wait};
+use std::thread::Threads;
+use type_table::TypeTable;
+
+/// A heap, with what it has given out of its slots. It isn't `Drop`: whoever has one closes it.
+pub struct Oilpan<'a, G> {
+    pub(crate) heap: Heap<'a, G>,
+    pub(crate) taken: [bool; 256],
+    pub(crate) watched: [bool; 64],
+    /// A slot that was given back not long ago.
+    pub(crate) likely: u32,
+    pub ghost opened: { heap.core.closed ≡ false },
+    pub ghost at_rest: { IsAtRest heap.core.setup heap.core.state taken },
+    pub ghost valid: { ∥ IsValid heap.core.setup heap.core.state ∥₁ },
+}
+
+impl<'a, G: Gate + Send + Sync + 'static> Oilpan<'a, G> {
+    /// An empty heap for objects of these types. Want of memory is free.
+    pub fn open(
+        alloc: Global,
+        options: HeapOptions,
+        types: TypeTable,
+        callbacks: &'a CallbackTable,
+        gate: &Arc<G>,
+    ) -> Result<Oilpan<'a, G>, NoMemory>
+        requires shape { IsShape (record { pages = options.pages; page_words = options.page_words }) }
+        requires few { options.markers ≤ 8 }
+        requires called { HaveCallbacks (length (callback_kinds callbacks.now)) types }
+        ensures setup { IfOk result (λ h. h.heap.core.setup ≡ record {
+          shape = record { pages = options.pages; page_words = options.page_words };
+          markers = options.markers;
+          types = types;
+          callbacks = callback_kinds callbacks.now;
+        }) }
+        ensures state { IfOk result (λ h. h.heap.core.state ≡ empty_state) }
+    {
+        empty_is_valid();
+        let config = Config {
+            pages: options.pages,
+            page_words: options.page_words,
+            markers: options.markers,
+        };
+        let heap = Heap::new(alloc, config, types, callbacks, gate)?;
+        Ok(Oilpan {
+            heap,
+            taken: [false; 256],
+            watched: [false; 64],
+            likely: 0,
+        })
+    }
+
+    /// Ends the heap: markers that run are stopped and joined. The answer counts the objects that were
+    /// not finalised, their words and their pages.
+    pub fn close<R: Threads + Wait>(self, rt: &R) -> Line
+        ensures { IsEndLine self.entry.heap.core.setup self.entry.heap.core.state result }
+    {
+        let Oilpan {
+            mut heap,
+            taken: _,
+            watched: _,
+            likely: _,
+        } = self;
+        heap.close(rt)
+    }
+}

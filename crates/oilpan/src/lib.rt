@@ -1,0 +1,45 @@
+//! # A heap for programs
+//!
+//! What it is: the heap as a program embeds it. `Oilpan` makes objects, writes and reads their fields,
+//! and collects; what a program holds of its objects are roots and weak roots. None of these is
+//! `Drop`: a root is released, and a heap closed, before it goes.
+//!
+//! The parts: `Oilpan`, `HeapOptions`, the handles `Root` and `WeakRoot`, and the errors. A call belongs to
+//! the thread that has the heap; markers and the pause are its own affair.
+//!
+//! | first | then, in any order | at last |
+//! |---|---|---|
+//! | `open` | `make`, `set`, `get` and the other calls on fields, `weak`, `upgrade`, `collect` | `release`, `release_weak`, `close` |
+//!
+//! 256 roots and 64 weak roots can be given out at a time. `Memory` means that the allocator gave none, and
+//! that nothing has changed: `make` says it for types with prefinalizers alone, and `collect` at its start.
+//!
+//! What is proved: each call does one command of `heap_engine`, and `collect` at most two; what it answers
+//! and what it changes is what `gc_graph` says of that command. A root that holds goes on to hold, through
+//! every call but its own release, and no call gives it out again. `get` and the reads of pairs give the node that
+//! the field names. A weak root upgrades just where its node lives. A field is refused just where
+//! the object lacks it, or it is of another kind.
+//!
+//! What is only tested or not said: that memory suffices, and how long a call takes. A weak slot that was
+//! given back goes on to name what it did until it is given out again.
+#![tactic(auto)]
+
+mod asking;
+mod cycles;
+mod errors;
+mod fields;
+mod flags;
+mod handles;
+mod heap;
+mod options;
+mod pairs;
+mod reading;
+mod roots;
+mod weak;
+mod words;
+
+pub use errors::{FieldError, GetError, HandleError, MakeError};
+pub use handles::{Root, WeakRoot};
+pub use heap::Oilpan;
+pub use heap_engine::{FreeGate, Gate};
+pub use options::HeapOptions;

@@ -1,0 +1,170 @@
+// Pairs: a value is kept as long as its key and its holder are.
+
+ghost use Rattle.std.specs.Prelude.{◌≡◌, ◌+◌, ◌<◌, ◌≤◌, IfOk, IfErr, IfSome};
+ghost use Rattle.gc_graph.specs.declared.kind.Value.TheVariants.{Null, Ref};
+ghost use Rattle.gc_graph.specs.Fields.{is_pair};
+ghost use Rattle.gc_graph.specs.ClearingLaw.{first_held, second_held};
+ghost use Rattle.gc_graph.specs.HandleLaw.{with_parts};
+ghost use Rattle.oilpan.specs.declared.handles.Root.{Root};
+ghost use Rattle.oilpan.specs.declared.handles.WeakRoot.{WeakRoot};
+ghost use Rattle.oilpan.specs.Handles.{HasRoom, Holds, Watches};
+ghost use Rattle.oilpan.specs.Fields.{HasField, IsFieldDone, IsFieldFault, IsGetFault, IsNamed};
+
+use crate::asking::write;
+use crate::errors::{FieldError, GetError};
+use crate::flags::free_flag;
+use crate::handles::Root;
+use crate::heap::Oilpan;
+use gc_graph::Command;
+use heap_engine::Gate;
+use std::sync::Wait;
+use std::thread::Threads;
+
+impl<'a, G: Gate + Send + Sync + 'static> Oilpan<'a, G> {
+    /// The holder's pair has this key and this value afterwards.
+    pub fn set_pair<R: Threads + Wait + Copy + Send + 'static>(
+        &mut self,
+        rt: &R,
+        holder: &Root,
+        field: u32,
+        key: &Root,
+        value: &Root,
+    ) -> Result<(), FieldError>
+        requires room { HasRoom self.old.heap.core.state 1 }
+        requires field { field < 67108864 }
+        requires holder { Holds self.old.heap.core.state holder.now }
+        requires key { Holds self.old.heap.core.state key.now }
+        requires value { Holds self.old.heap.core.state value.now }
+        ensures setup { self.new.heap.core.setup ≡ self.old.heap.core.setup }
+        ensures ordinal { self.new.heap.core.state.ordinal ≡ self.old.heap.core.state.ordinal + 1 }
+        ensures names { IfOk result (λ _. IsFieldDone is_pair
+            self.old.heap.core.state holder.now.node field
+            (with_parts self.old.heap.core.state holder.now.node field
+            (Ref key.now.node) (Ref value.now.node))
+            self.new.heap.core.state) }
+        ensures fault { IfErr result (IsFieldFault is_pair
+            self.old.heap.core.state holder.now.node field self.new.heap.core.state) }
+        ensures stays { (o : Root) →
+            Holds self.old.heap.core.state o → Holds self.new.heap.core.state o }
+        ensures watches { (o : WeakRoot) →
+            Watches self.old.heap.core.state self.old.watched o →
+            Watches self.new.heap.core.state self.new.watched o }
+    {
+        let command = Command::Pair {
+            p: holder.slot,
+            f: field,
+            k: key.slot,
+            v: value.slot,
+        };
+        write(&mut self.heap, rt, &command)
+    }
+
+    /// Key and value of the holder's pair are null afterwards.
+    pub fn clear_pair<R: Threads + Wait + Copy + Send + 'static>(
+        &mut self,
+        rt: &R,
+        holder: &Root,
+        field: u32,
+    ) -> Result<(), FieldError>
+        requires room { HasRoom self.old.heap.core.state 1 }
+        requires field { field < 67108864 }
+        requires holder { Holds self.old.heap.core.state holder.now }
+        ensures setup { self.new.heap.core.setup ≡ self.old.heap.core.setup }
+        ensures ordinal { self.new.heap.core.state.ordinal ≡ self.old.heap.core.state.ordinal + 1 }
+        ensures null { IfOk result (λ _. IsFieldDone is_pair
+            self.old.heap.core.state holder.now.node field
+            (with_parts self.old.heap.core.state holder.now.node field Null Null)
+            self.new.heap.core.state) }
+        ensures fault { IfErr result (IsFieldFault is_pair
+            self.old.heap.core.state holder.now.node field self.new.heap.core.state) }
+        ensures stays { (o : Root) →
+            Holds self.old.heap.core.state o → Holds self.new.heap.core.state o }
+        ensures watches { (o : WeakRoot) →
+            Watches self.old.heap.core.state self.old.watched o →
+            Watches self.new.heap.core.state self.new.watched o }
+    {
+        let command = Command::PairNull {
+            p: holder.slot,
+            f: field,
+        };
+        write(&mut self.heap, rt, &command)
+    }
+
+    /// A root for the key of the holder's pair.
+    pub fn pair_key<R: Threads + Wait + Copy + Send + 'static>(
+        &mut self,
+        rt: &R,
+        holder: &Root,
+        field: u32,
+    ) -> Result<Option<Root>, GetError>
+        requires room { HasRoom self.old.heap.core.state 1 }
+        requires field { field < 67108864 }
+        requires holder { Holds self.old.heap.core.state holder.now }
+        ensures setup { self.new.heap.core.setup ≡ self.old.heap.core.setup }
+        ensures ordinal { self.new.heap.core.state.ordinal ≤ self.old.heap.core.state.ordinal + 1 }
+        ensures nodes { self.new.heap.core.state.nodes ≡ self.old.heap.core.state.nodes }
+        ensures field { IfOk result (λ _.
+            HasField is_pair self.old.heap.core.state holder.now.node field) }
+        ensures names { IfOk result (IsNamed
+            (first_held self.old.heap.core.state.nodes holder.now.node field)) }
+        ensures fault { IfErr result (IsGetFault is_pair
+            self.old.heap.core.state holder.now.node field) }
+        ensures held { IfOk result (λ o. IfSome o (Holds self.new.heap.core.state)) }
+        ensures fresh { IfOk result (λ o. IfSome o (λ r. (o : Root) →
+            Holds self.old.heap.core.state o → ¬ (o.slot ≡ r.slot))) }
+        ensures stays { (o : Root) →
+            Holds self.old.heap.core.state o → Holds self.new.heap.core.state o }
+        ensures watches { (o : WeakRoot) →
+            Watches self.old.heap.core.state self.old.watched o →
+            Watches self.new.heap.core.state self.new.watched o }
+    {
+        let Some(slot) = free_flag(&self.taken, self.likely) else {
+            return Err(GetError::Handles);
+        };
+        let command = Command::Key {
+            p: holder.slot,
+            f: field,
+            q: slot,
+        };
+        Ok(self.read_into(rt, &command, slot)?)
+    }
+
+    /// A root for the value of the holder's pair.
+    pub fn pair_value<R: Threads + Wait + Copy + Send + 'static>(
+        &mut self,
+        rt: &R,
+        holder: &Root,
+        field: u32,
+    ) -> Result<Option<Root>, GetError>
+        requires room { HasRoom self.old.heap.core.state 1 }
+        requires field { field < 67108864 }
+        requires holder { Holds self.old.heap.core.state holder.now }
+        ensures setup { self.new.heap.core.setup ≡ self.old.heap.core.setup }
+        ensures ordinal { self.new.heap.core.state.ordinal ≤ self.old.heap.core.state.ordinal + 1 }
+        ensures nodes { self.new.heap.core.state.nodes ≡ self.old.heap.core.state.nodes }
+        ensures field { IfOk result (λ _.
+            HasField is_pair self.old.heap.core.state holder.now.node field) }
+        ensures names { IfOk result (IsNamed
+            (second_held self.old.heap.core.state.nodes holder.now.node field)) }
+        ensures fault { IfErr result (IsGetFault is_pair
+            self.old.heap.core.state holder.now.node field) }
+        ensures held { IfOk result (λ o. IfSome o (Holds self.new.heap.core.state)) }
+        ensures fresh { IfOk result (λ o. IfSome o (λ r. (o : Root) →
+            Holds self.old.heap.core.state o → ¬ (o.slot ≡ r.slot))) }
+        ensures stays { (o : Root) →
+            Holds self.old.heap.core.state o → Holds self.new.heap.core.state o }
+        ensures watches { (o : WeakRoot) →
+            Watches self.old.heap.core.state self.old.watched o →
+            Watches self.new.heap.core.state self.new.watched o }
+    {
+        let Some(slot) = free_flag(&self.taken, self.likely) else {
+            return Err(GetError::Handles);
+        };
+        let command = Command::Val {
+            p: holder.slot,
+            f: field,
+            q: slot,
+        };
+        Ok(self.read_into(rt, &command, slot)?)
+    }
+}
