@@ -8,3 +8,5 @@ mod Making
 mod Slots
 mod Cycling
 mod FieldReads
+pub mod Limits
+pub mod Naming

@@ -4,3 +4,7 @@ pub mod Rest
 pub mod Asked
 pub mod Fields
 pub mod Made
+pub mod DeclaredTypes
+pub mod FaultErrors
+pub mod Named
+pub mod TypesErrors

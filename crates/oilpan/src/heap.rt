@@ -65,6 +65,13 @@ impl<'a, G: Gate + Send + Sync + 'static> Oilpan<'a, G> {
         })
     }
 
+    /// No more objects were made than commands were done. Whoever calls this has the law.
+    pub fn nodes_are_few(&self)
+        ensures { length self.now.heap.core.state.nodes ≤ self.now.heap.core.state.ordinal }
+    {
+        self.heap.nodes_are_few();
+    }
+
     /// Ends the heap: markers that run are stopped and joined. The answer counts the objects that were
     /// not finalised, their words and their pages.
     pub fn close<R: Threads + Wait>(self, rt: &R) -> Line

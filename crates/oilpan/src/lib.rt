@@ -4,8 +4,10 @@
 //! and collects; what a program holds of its objects are roots and weak roots. None of these is
 //! `Drop`: a root is released, and a heap closed, before it goes.
 //!
-//! The parts: `Oilpan`, `HeapOptions`, the handles `Root` and `WeakRoot`, and the errors. A call belongs to
-//! the thread that has the heap; markers and the pause are its own affair.
+//! The parts: `Types`, `BegunObject` and `Names` (the types of objects by chained calls, and the numbers
+//! of their names), `Oilpan`, `HeapOptions`, the handles `Root` and `WeakRoot`, and the errors. Within,
+//! `Gathered` is a list that tells at its end that memory was wanting. A call belongs to the thread that
+//! has the heap; markers and the pause are its own affair.
 //!
 //! | first | then, in any order | at last |
 //! |---|---|---|
@@ -18,7 +20,8 @@
 //! and what it changes is what `gc_graph` says of that command. A root that holds goes on to hold, through
 //! every call but its own release, and no call gives it out again. `get` and the reads of pairs give the node that
 //! the field names. A weak root upgrades just where its node lives. A field is refused just where
-//! the object lacks it, or it is of another kind.
+//! the object lacks it, or it is of another kind. A table of types has exactly what was declared, in its
+//! order, and a name the number at which it was declared first.
 //!
 //! What is only tested or not said: that memory suffices, and how long a call takes. A weak slot that was
 //! given back goes on to name what it did until it is given out again.
@@ -26,20 +29,30 @@
 
 mod asking;
 mod cycles;
+mod declaring;
 mod errors;
 mod fields;
 mod flags;
+mod gathered;
 mod handles;
 mod heap;
+mod names;
 mod options;
 mod pairs;
 mod reading;
 mod roots;
+mod types;
+mod types_errors;
 mod weak;
 mod words;
 
+pub use callback_table::{Callback, CallbackTable};
 pub use errors::{FieldError, GetError, HandleError, MakeError};
 pub use handles::{Root, WeakRoot};
 pub use heap::Oilpan;
 pub use heap_engine::{FreeGate, Gate};
+pub use names::Names;
 pub use options::HeapOptions;
+pub use type_table::TypeTable;
+pub use types::{BegunObject, Types};
+pub use types_errors::TypesError;
