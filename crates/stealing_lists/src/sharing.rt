@@ -23,7 +23,8 @@ pub fn shared_out<R: Threads + Sync>(rt: &R, alloc: Global, count: u32) -> Resul
         rt,
         move || -> (SharedList, Result<(), NoMemory>)
             ensures same { IsSameList list result.0 }
-            ensures put { OnOk result.1 (length (put_of (at result.0 0)) ≡ length (put_of (at list 0)) + count) }
+            ensures put { OnOk result.1
+                (length (put_of (at result.0 0)) ≡ length (put_of (at list 0)) + count) }
         { put_all(list, count) },
         move || -> Share
             ensures same { IsSameShare share result }
@@ -39,7 +40,8 @@ pub fn shared_out<R: Threads + Sync>(rt: &R, alloc: Global, count: u32) -> Resul
 /// Puts so many items on the list.
 fn put_all(mut list: SharedList, count: u32) -> (SharedList, Result<(), NoMemory>)
     ensures same { IsSameList list result.0 }
-    ensures put { OnOk result.1 (length (put_of (at result.0 0)) ≡ length (put_of (at list 0)) + count) }
+    ensures put { OnOk result.1
+        (length (put_of (at result.0 0)) ≡ length (put_of (at list 0)) + count) }
 {
     for item in 0..count {
         if list.push(item).is_err() {
