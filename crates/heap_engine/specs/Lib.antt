@@ -7,3 +7,4 @@ pub mod Sound
 pub mod Acted
 -- Words of the crates below that the crates above name too.
 pub use Rattle.heap_cycle.specs.Objects
+pub use Rattle.heap_cycle.specs.Printed
