@@ -42,6 +42,7 @@ asked leave mean keep tell stay setup old new command piece lines line some allo
     let left : LeavesRest old command new = leave setup old command piece lines new step in
     record {
       step = step;
+      last = last;
       means = (mean setup old new command piece lines step).1 line last;
       left = left;
       ordinal = ordinal;

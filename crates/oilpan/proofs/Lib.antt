@@ -7,6 +7,7 @@ mod Keeping
 mod Making
 mod Slots
 mod Cycling
+mod Stepping
 mod FieldReads
 pub mod Limits
 pub mod Naming

@@ -11,7 +11,7 @@ use Rattle.gc_graph.specs.State.{Setup, State}
 use Rattle.gc_graph.specs.Step.{Step}
 use Rattle.gc_graph.specs.Valid.{IsValid}
 use Rattle.gc_graph.specs.FrameLaw.{LeavesRest}
-use Rattle.gc_graph.specs.HandleLaw.{TellsLife, Means}
+use Rattle.gc_graph.specs.HandleLaw.{IsLast, TellsLife, Means}
 use Rattle.oilpan.specs.declared.errors.FieldError.{FieldError}
 use Rattle.oilpan.specs.declared.errors.FieldError.TheVariants as F
 use Rattle.oilpan.specs.declared.handles.Root.{Root}
@@ -22,7 +22,6 @@ is_of_face (C.Push p o) = false
 is_of_face (C.PushPlain n) = false
 is_of_face C.Pop = false
 is_of_face (C.Peek i q) = false
-is_of_face C.Stat = false
 is_of_face (C.At j order) = false
 is_of_face C.ThreadsGo = false
 is_of_face C.ThreadsJoin = false
@@ -81,6 +80,7 @@ line_of_word (Err why) = L.Refused (why_of why)
 -- the command was a step whose last line this is; with that stands what the laws of steps say of it
 pub record IsAsked (setup : Setup) (old new : State) (command : Command) (piece : List Entry) (lines : List Line) (line : Line) : Type 0 where
   pub step : Step setup old command piece lines new
+  pub last : IsLast lines line
   pub means : Means setup old command piece lines new line
   pub left : LeavesRest old command new
   pub ordinal : new.ordinal ≡ old.ordinal + 1

@@ -2,6 +2,7 @@ pub mod GetErrors
 pub mod Handles
 pub mod Rest
 pub mod Asked
+pub mod Cycles
 pub mod Fields
 pub mod Made
 pub mod DeclaredTypes

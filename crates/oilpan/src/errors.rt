@@ -57,3 +57,22 @@ impl From<FieldError> for GetError {
         }
     }
 }
+
+/// Why no collection was started.
+#[derive(Clone, Copy, Debug, PartialEq, Eq, Drop, Error)]
+pub enum StartError {
+    #[error("a collection is marking")]
+    Marking,
+    #[error("no memory")]
+    Memory,
+}
+
+/// No collection is marking that could go on.
+#[derive(Clone, Copy, Debug, PartialEq, Eq, Drop, Error)]
+#[error("no collection is marking")]
+pub struct NotMarking;
+
+/// No sweep is open that could go on.
+#[derive(Clone, Copy, Debug, PartialEq, Eq, Drop, Error)]
+#[error("no sweep is open")]
+pub struct NotSweeping;

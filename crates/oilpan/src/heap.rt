@@ -1,17 +1,19 @@
 // The heap that a program embeds.
 
-ghost use Rattle.std.specs.Prelude.{◌≡◌, ◌≤◌, false, length, IfOk};
+ghost use Rattle.std.specs.Prelude.{◌≡◌, ◌+◌, ◌-◌, ◌^◌, ◌≤◌, false, length, IfOk};
 ghost use Rattle.gc_graph.specs.Shapes.{IsShape};
-ghost use Rattle.gc_graph.specs.State.{empty_state};
+ghost use Rattle.gc_graph.specs.State.{IsLive, empty_state};
 ghost use Rattle.gc_graph.specs.Valid.{IsValid};
 ghost use Rattle.gc_graph.specs.Lawful.{IsEndLine};
 ghost use Rattle.callback_table.specs.Table.{callback_kinds};
 ghost use Rattle.heap_engine.specs.Objects.{HaveCallbacks};
+ghost use Rattle.oilpan.specs.declared.handles.Root.{Root};
+ghost use Rattle.oilpan.specs.Handles.{Holds};
 ghost use Rattle.oilpan.specs.Rest.{IsAtRest};
 
 use crate::options::HeapOptions;
 use callback_table::CallbackTable;
-use gc_graph::{Line, NoMemory, empty_is_valid};
+use gc_graph::{Line, NoMemory, empty_is_valid, slots_name_the_live};
 use heap_engine::{Config, Gate, Heap};
 use std::alloc::Global;
 use std::sync::{Arc, Wait};
@@ -65,11 +67,30 @@ impl<'a, G: Gate + Send + Sync + 'static> Oilpan<'a, G> {
         })
     }
 
+    /// How many commands are left of the 2^64 - 1 that a heap does. A call takes one, and `collect` two.
+    pub fn commands_left(&self) -> u64
+        ensures { self.now.heap.core.state.ordinal + result ≡ 2 ^ 64 - 1 }
+    {
+        match self.heap.summary() {
+            Line::Summary { c, .. } => u64::MAX - c,
+            _ => unreachable!(),
+        }
+    }
+
     /// No more objects were made than commands were done. Whoever calls this has the law.
     pub fn nodes_are_few(&self)
         ensures { length self.now.heap.core.state.nodes ≤ self.now.heap.core.state.ordinal }
     {
         self.heap.nodes_are_few();
+    }
+
+    /// What roots hold lives. Whoever calls this has the law.
+    pub fn held_objects_live(&self)
+        ensures { (o : Root) → Holds self.now.heap.core.state o →
+            IsLive self.now.heap.core.state.nodes o.node }
+    {
+        slots_name_the_live();
+        self.heap.is_valid();
     }
 
     /// Ends the heap: markers that run are stopped and joined. The answer counts the objects that were

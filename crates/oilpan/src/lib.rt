@@ -5,23 +5,32 @@
 //! `Drop`: a root is released, and a heap closed, before it goes.
 //!
 //! The parts: `Types`, `BegunObject` and `Names` (the types of objects by chained calls, and the numbers
-//! of their names), `Oilpan`, `HeapOptions`, the handles `Root` and `WeakRoot`, and the errors. Within,
-//! `Gathered` is a list that tells at its end that memory was wanting. A call belongs to the thread that
-//! has the heap; markers and the pause are its own affair.
+//! of their names), `Oilpan`, `HeapOptions`, the handles `Root` and `WeakRoot`, what calls tell
+//! (`Stepped`, `Totals`), and the errors. Within, `Gathered` is a list that tells at its end that memory
+//! was wanting. A call belongs to the thread that has the heap; markers and the pause are its own affair.
 //!
-//! | first | then, in any order | at last |
-//! |---|---|---|
-//! | `open` | `make`, `set`, `get` and the other calls on fields, `weak`, `upgrade`, `collect` | `release`, `release_weak`, `close` |
+//! | when | calls |
+//! |---|---|
+//! | first | `Types::new` to `done`, `open` |
+//! | then, in any order | `make`, `set`, `get` and the others on fields; `weak`, `upgrade`; `release`, `release_weak` |
+//! | | `collect`, or `start`, `step` and `finish`; `sweep`; `totals`, `finalised` |
+//! | at last | `close` |
 //!
 //! 256 roots and 64 weak roots can be given out at a time. `Memory` means that the allocator gave none, and
-//! that nothing has changed: `make` says it for types with prefinalizers alone, and `collect` at its start.
+//! that nothing has changed: `make` says it for types with prefinalizers alone, and `collect` and `start`
+//! at their beginning. A heap does 2^64 - 1 commands. A caller has it that some are left (`HasRoom`) from the
+//! clause `ordinal` of the call before, or asks `commands_left`.
+//!
+//! In `crates.txt` a program's line names `oilpan`, and `gc_graph` for the line that `close` answers. Its
+//! clauses need `Rattle.oilpan.specs.Handles.{HasRoom, Holds, Watches}`.
 //!
 //! What is proved: each call does one command of `heap_engine`, and `collect` at most two; what it answers
 //! and what it changes is what `gc_graph` says of that command. A root that holds goes on to hold, through
-//! every call but its own release, and no call gives it out again. `get` and the reads of pairs give the node that
-//! the field names. A weak root upgrades just where its node lives. A field is refused just where
-//! the object lacks it, or it is of another kind. A table of types has exactly what was declared, in its
-//! order, and a name the number at which it was declared first.
+//! every call but its own release, and no call gives it out again; what it holds lives. `get` and the reads of
+//! pairs give the node that the field names. A weak root upgrades just where its node lives. A field is
+//! refused just where the object lacks it, or it is of another kind; a collection is where its phase is
+//! another. A table of types has exactly what was declared, in its order, and a name the number at which it
+//! was declared first.
 //!
 //! What is only tested or not said: that memory suffices, and how long a call takes. A weak slot that was
 //! given back goes on to name what it did until it is given out again.
@@ -41,18 +50,23 @@ mod options;
 mod pairs;
 mod reading;
 mod roots;
+mod sweeping;
+mod told;
 mod types;
 mod types_errors;
 mod weak;
 mod words;
 
 pub use callback_table::{Callback, CallbackTable};
-pub use errors::{FieldError, GetError, HandleError, MakeError};
+pub use errors::{
+    FieldError, GetError, HandleError, MakeError, NotMarking, NotSweeping, StartError,
+};
 pub use handles::{Root, WeakRoot};
 pub use heap::Oilpan;
 pub use heap_engine::{FreeGate, Gate};
 pub use names::Names;
 pub use options::HeapOptions;
+pub use told::{Stepped, Totals};
 pub use type_table::TypeTable;
 pub use types::{BegunObject, Types};
 pub use types_errors::TypesError;
