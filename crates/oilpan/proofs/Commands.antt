@@ -1,5 +1,5 @@
 -- A command that a call gave is a step of which the laws of steps hold.
-use Rattle.std.proofs.Common.{◌≡◌, ◌≢◌, ◌<◌, ◌+◌, ℕ, Bool, true, false, List, length, None, refl, sym, ap, ◌∙◌, true≢false}
+use Rattle.std.proofs.Common.{◌≡◌, ◌<◌, ◌+◌, ℕ, true, false, List, length, None, refl, sym, ap, ◌∙◌, true≢false}
 use Rattle.gc_graph.specs.declared.command.Command.{Command}
 use Rattle.gc_graph.specs.declared.command.Command.TheVariants as C
 use Rattle.gc_graph.specs.declared.line.Line.{Line}
@@ -10,11 +10,15 @@ use Rattle.gc_graph.specs.declared.region.Entry.{Entry}
 use Rattle.gc_graph.specs.State.{Setup, State}
 use Rattle.gc_graph.specs.Step.{Step}
 use Rattle.gc_graph.specs.Lawful.{IsAllowed}
-use Rattle.gc_graph.specs.Commands.{family_of, WritesStack, HasReason, SpeaksOf, IsOutOfPhase, IsStopped, LacksWord}
+use Rattle.gc_graph.specs.Commands.{family_of, WritesStack, SpeaksOf, IsOutOfPhase, IsStopped, LacksWord}
 use Rattle.gc_graph.specs.Families.{StaysElse, StepsStayInTheirFamily}
 use Rattle.gc_graph.specs.FrameLaw.{StepsLeaveRest, LeavesRest}
 use Rattle.gc_graph.specs.ValidLaw.{StepKeepsValid}
 use Rattle.gc_graph.specs.HandleLaw.{IsLast, LastLinesMean, WeakSlotsTellLives, Means, MeansDone, MeansRead, MeansWord, IsTurnedDown}
+use Rattle.gc_graph.specs.HistoryLaw.{StepsFollow}
+use Rattle.gc_graph.specs.RegionLaw.{CallsChangeTheirSlot}
+use Rattle.gc_graph.specs.ThreadLaw.{StepsLeaveThreads, is_of_threads}
+use Rattle.oilpan.proofs.Pieces.{keeps}
 use Rattle.oilpan.specs.Asked.{is_of_face, is_write, is_read, IsAsked}
 
 no_stack : (command : Command) → is_of_face command ≡ true → WritesStack command → ⊥
@@ -22,6 +26,12 @@ no_stack (C.Push p o) is writes = true≢false (sym is)
 no_stack (C.PushPlain n) is writes = true≢false (sym is)
 no_stack C.Pop is writes = true≢false (sym is)
 no_stack command is writes = writes
+
+no_thread : (command : Command) → is_of_face command ≡ true → is_of_threads command ≡ false
+no_thread (C.At j order) is = absurd (true≢false (sym is))
+no_thread C.ThreadsGo is = absurd (true≢false (sym is))
+no_thread C.ThreadsJoin is = absurd (true≢false (sym is))
+no_thread command is = refl
 
 same_running : (command : Command) (old new : State) (piece : List Entry) → is_of_face command ≡ true → StaysElse (family_of command) old piece new
     → new.running ≡ old.running
@@ -35,10 +45,11 @@ same_running C.ThreadsJoin old new piece is h = absurd (true≢false (sym is))
 same_running command old new piece is h = ap (λ (s : State). s.running) h
 
 -- what the laws of steps say of the command
-pub asked : StepsLeaveRest → LastLinesMean → StepKeepsValid → WeakSlotsTellLives → StepsStayInTheirFamily → (setup : Setup) (old new : State) (command : Command)
+pub asked : StepsLeaveRest → LastLinesMean → StepKeepsValid → WeakSlotsTellLives → StepsStayInTheirFamily → CallsChangeTheirSlot → StepsFollow
+    → StepsLeaveThreads → (setup : Setup) (old new : State) (command : Command)
     (piece : List Entry) (lines : List Line) (line : Line) → 0 < setup.shape.pages → IsAllowed (length setup.types) command → is_of_face command ≡ true
     → Step setup old command piece lines new → new.ordinal ≡ old.ordinal + 1 → IsLast lines line → IsAsked setup old new command piece lines line
-asked leave mean keep tell stay setup old new command piece lines line some allowed face step ordinal last =
+asked leave mean keep tell stay change follow threads setup old new command piece lines line some allowed face step ordinal last =
     let left : LeavesRest old command new = leave setup old command piece lines new step in
     record {
       step = step;
@@ -50,6 +61,7 @@ asked leave mean keep tell stay setup old new command piece lines line some allo
       running = same_running command old new piece face (stay setup old command piece lines new step).rest;
       valid = λ valid. keep setup old new command piece lines some allowed valid step;
       tells = λ valid. tell setup old command piece lines new some allowed valid step;
+      region = keeps change follow threads setup old new piece lines command (no_thread command face) step;
     }
 
 -- ---- which lines there are

@@ -1,23 +1,20 @@
 -- What a command leaves that reads a field into a slot.
-use Rattle.std.proofs.Common.{◌≡◌, ◌≢◌, ◌<◌, ℕ, Bool, true, false, true≢false, List, length, Option, Some, None, Result, Ok, Err, refl, sym, ap, ◌∙◌, subst, get_or}
-use Rattle.std.specs.Prelude.{IfOk, IfErr, IfSome}
+use Rattle.std.proofs.Common.{◌≡◌, ◌<◌, ℕ, true, List, length, Option, Some, None, refl, sym, ap, ◌∙◌, subst}
 use Rattle.gc_graph.specs.declared.command.Command.{Command}
 use Rattle.gc_graph.specs.declared.command.Command.TheVariants as C
 use Rattle.gc_graph.specs.declared.line.Line.{Line}
 use Rattle.gc_graph.specs.declared.line.Line.TheVariants as L
-use Rattle.gc_graph.specs.declared.line.Refusal.TheVariants as R
 use Rattle.gc_graph.specs.declared.region.Entry.{Entry}
-use Rattle.gc_graph.specs.State.{Setup, State, Node}
+use Rattle.gc_graph.specs.State.{Setup, State}
 use Rattle.gc_graph.specs.Fields.{is_reference, is_pair}
-use Rattle.gc_graph.specs.Outcomes.{answered, slot_at}
+use Rattle.gc_graph.specs.Outcomes.{slot_at}
 use Rattle.gc_graph.specs.Commands.{SpeaksOf, WritesSlot}
 use Rattle.gc_graph.specs.ClearingLaw.{first_held, second_held}
-use Rattle.gc_graph.specs.HandleLaw.{Means, IsTurnedDown, reads_weakly}
+use Rattle.gc_graph.specs.HandleLaw.{Means, reads_weakly}
 use Rattle.oilpan.specs.declared.errors.FieldError.{FieldError}
-use Rattle.oilpan.specs.declared.errors.FieldError.TheVariants as F
-use Rattle.oilpan.specs.declared.handles.Root.{Root}
-use Rattle.oilpan.specs.Asked.{IsAsked, ReadsInto, is_read, is_of_face, line_of_read, line_of_roots, why_of}
-use Rattle.oilpan.proofs.Fielding.{names, names_none}
+use Rattle.oilpan.specs.Region.{WritesRegion}
+use Rattle.oilpan.specs.Asked.{ReadsInto, why_of}
+use Rattle.oilpan.proofs.Fielding.{names_none}
 
 -- a slot that some command speaks of holds a node
 option_there : (o : Option ℕ) → (o ≡ None → ⊥) → (n : ℕ) × (o ≡ Some n)
@@ -29,6 +26,10 @@ reads_one slot (C.Get p f q) h z writes = writes ∙ h
 reads_one slot (C.Key p f q) h z writes = writes ∙ h
 reads_one slot (C.Val p f q) h z writes = writes ∙ h
 reads_one slot command h z writes = absurd h
+
+pub reads_apart : (slot : ℕ) (command : Command) → ReadsInto slot command → (z : ℕ) → WritesRegion command z → ⊥
+reads_apart slot (C.Export p x) h z writes = h
+reads_apart slot command h z writes = writes
 
 module _ (setup : Setup) (old new : State) (piece : List Entry) (lines : List Line) (slot : ℕ) (low : slot < length old.slots) where
   -- where null was read, the slot is null

@@ -1,7 +1,6 @@
 -- What a call leaves of the heap's own state: it is at rest, and valid.
-use Rattle.std.proofs.Common.{◌≡◌, ◌≢◌, ◌<◌, ℕ, Bool, true, false, true≢false, List, length, Option, Some, None, sym, ap, ◌∙◌, subst, get_or, set as slice_set}
+use Rattle.std.proofs.Common.{◌≡◌, ℕ, Bool, true, List, None, sym, subst, get_or}
 use Rattle.std.proofs.Math.Logic.{∥∥₁_map}
-use Rattle.std.proofs.lemmas.Bool.{cases_Bool}
 use Rattle.gc_graph.specs.declared.command.Command.{Command}
 use Rattle.gc_graph.specs.declared.line.Line.{Line}
 use Rattle.gc_graph.specs.declared.region.Entry.{Entry}
@@ -10,7 +9,12 @@ use Rattle.gc_graph.specs.Outcomes.{slot_at}
 use Rattle.gc_graph.specs.Commands.{WritesSlot}
 use Rattle.gc_graph.specs.Valid.{IsValid}
 use Rattle.oilpan.specs.Asked.{IsAsked}
-use Rattle.oilpan.specs.Rest.{IsAtRest}
+use Rattle.oilpan.specs.Rest.{IsAtRest, IsRegionAtRest}
+use Rattle.oilpan.specs.Handles.{Shares}
+use Rattle.oilpan.specs.Region.{WritesRegion}
+use Rattle.oilpan.specs.declared.handles.SharedRoot.{SharedRoot}
+use Rattle.oilpan.specs.declared.sharing.Sharing.{Sharing}
+use Rattle.oilpan.proofs.Regions.{region_still, share_stays}
 use Rattle.oilpan.proofs.Resting.{rest_same, rest_given, rest_nulled}
 
 module _ (setup after : Setup) (same : after ≡ setup) (old new : State) (command : Command) (piece : List Entry) (lines : List Line) (line : Line)
@@ -31,3 +35,13 @@ module _ (setup after : Setup) (same : after ≡ setup) (old new : State) (comma
   pub nulled : (taken : List Bool) → IsAtRest setup old taken → (q : ℕ) → ((z : ℕ) → WritesSlot command z → z ≡ q) → slot_at new q ≡ None
       → IsAtRest after new taken
   nulled taken rest q one null = to taken (rest_nulled setup old new command piece lines line asked taken rest q one null)
+
+  -- no slot of the region was written
+  pub apart : (taken : List Bool) → IsAtRest setup old taken → (shared : List Sharing) → IsRegionAtRest old shared → ((z : ℕ) → WritesRegion command z → ⊥)
+      → IsRegionAtRest new shared
+  apart taken rest shared region none = region_still old new command (asked.region rest.running) shared region none
+
+  -- so shared roots stay
+  pub shared : (taken : List Bool) → IsAtRest setup old taken → (flags : List Sharing) → ((z : ℕ) → WritesRegion command z → ⊥) → (o : SharedRoot)
+      → Shares old flags o → Shares new flags o
+  shared taken rest flags none o h = share_stays old new command (asked.region rest.running) flags none o h

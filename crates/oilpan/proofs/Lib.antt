@@ -1,7 +1,12 @@
 mod Lives
 mod Resting
 mod Frames
+mod Pieces
+mod Regions
 mod Commands
+mod Exports
+mod ThreadClears
+mod Cleared
 mod Fielding
 mod Keeping
 mod Making

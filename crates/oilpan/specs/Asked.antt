@@ -1,5 +1,5 @@
 -- What came of a command that a call gave.
-use Rattle.std.specs.Prelude.{◌≡◌, ◌≢◌, ℕ, ◌+◌, Bool, true, false, List, Option, Some, None, Result, Ok, Err}
+use Rattle.std.specs.Prelude.{◌≡◌, ◌≢◌, ℕ, ◌+◌, Bool, true, false, List, [], Option, Some, None, Result, Ok, Err}
 use Rattle.gc_graph.specs.declared.command.Command.{Command}
 use Rattle.gc_graph.specs.declared.command.Command.TheVariants as C
 use Rattle.gc_graph.specs.declared.line.Line.{Line}
@@ -15,6 +15,7 @@ use Rattle.gc_graph.specs.HandleLaw.{IsLast, TellsLife, Means}
 use Rattle.oilpan.specs.declared.errors.FieldError.{FieldError}
 use Rattle.oilpan.specs.declared.errors.FieldError.TheVariants as F
 use Rattle.oilpan.specs.declared.handles.Root.{Root}
+use Rattle.oilpan.specs.Region.{KeepsRegion}
 
 -- the commands that calls give: none on the stack, and none on threads
 abbrev pub is_of_face : Command → Bool
@@ -88,3 +89,4 @@ pub record IsAsked (setup : Setup) (old new : State) (command : Command) (piece 
   pub running : new.running ≡ old.running
   pub valid : IsValid setup old → IsValid setup new
   pub tells : IsValid setup old → (w n : ℕ) → ((p : ℕ) → command ≢ C.Weak w p) → TellsLife old w n → TellsLife new w n
+  pub region : old.running ≡ [] → KeepsRegion old command new

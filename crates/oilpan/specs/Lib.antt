@@ -1,7 +1,9 @@
 pub mod GetErrors
 pub mod Handles
 pub mod Rest
+pub mod Region
 pub mod Asked
+pub mod Clearing
 pub mod Cycles
 pub mod Fields
 pub mod Made

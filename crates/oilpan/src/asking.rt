@@ -12,7 +12,8 @@ ghost use Rattle.gc_graph.specs.Outcomes.{slot_at};
 
 use crate::errors::FieldError;
 use gc_graph::{
-    Command, Line, Refusal, last_lines_mean, step_keeps_valid, steps_leave_the_rest,
+    Command, Line, Refusal, calls_change_their_slot, last_lines_mean, step_keeps_valid,
+    steps_follow_the_history, steps_leave_the_rest, steps_leave_threads,
     steps_stay_in_their_family, weak_slots_tell_lives,
 };
 use heap_engine::{Gate, Heap};
@@ -41,6 +42,9 @@ pub(crate) fn ask<R: Threads + Wait + Copy + Send + 'static, G: Gate + Send + Sy
     step_keeps_valid();
     weak_slots_tell_lives();
     steps_stay_in_their_family();
+    calls_change_their_slot();
+    steps_follow_the_history();
+    steps_leave_threads();
     heap.ask(rt, command)
 }
 

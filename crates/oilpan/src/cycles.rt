@@ -6,9 +6,10 @@ ghost use Rattle.gc_graph.specs.declared.phase.Phase.TheVariants.{Marking, Sweep
 ghost use Rattle.gc_graph.specs.CycleSteps.{IsBegun, IsFinished};
 ghost use Rattle.gc_graph.specs.CollectionLaw.{CondemnsUnreached};
 ghost use Rattle.oilpan.specs.declared.handles.Root.{Root};
+ghost use Rattle.oilpan.specs.declared.handles.SharedRoot.{SharedRoot};
 ghost use Rattle.oilpan.specs.declared.handles.WeakRoot.{WeakRoot};
 ghost use Rattle.oilpan.specs.Cycles.{IsOutOf, IsStartFault, IsStepped};
-ghost use Rattle.oilpan.specs.Handles.{HasRoom, Holds, Watches};
+ghost use Rattle.oilpan.specs.Handles.{HasRoom, Holds, Shares, Watches};
 
 use crate::asking::ask;
 use crate::errors::{NotMarking, StartError};
@@ -36,6 +37,9 @@ impl<'a, G: Gate + Send + Sync + 'static> Oilpan<'a, G> {
         ensures watches { (o : WeakRoot) →
             Watches self.old.heap.core.state self.old.watched o →
             Watches self.new.heap.core.state self.new.watched o }
+        ensures shares { (o : SharedRoot) →
+            Shares self.old.heap.core.state self.old.shared o →
+            Shares self.new.heap.core.state self.new.shared o }
     {
         precise_collection_is_exact();
         let now = Command::GcNow {
@@ -75,6 +79,9 @@ impl<'a, G: Gate + Send + Sync + 'static> Oilpan<'a, G> {
         ensures watches { (o : WeakRoot) →
             Watches self.old.heap.core.state self.old.watched o →
             Watches self.new.heap.core.state self.new.watched o }
+        ensures shares { (o : SharedRoot) →
+            Shares self.old.heap.core.state self.old.shared o →
+            Shares self.new.heap.core.state self.new.shared o }
     {
         match ask(&mut self.heap, rt, &Command::GcStart) {
             Line::Memory => Err(StartError::Memory),
@@ -103,6 +110,9 @@ impl<'a, G: Gate + Send + Sync + 'static> Oilpan<'a, G> {
         ensures watches { (o : WeakRoot) →
             Watches self.old.heap.core.state self.old.watched o →
             Watches self.new.heap.core.state self.new.watched o }
+        ensures shares { (o : SharedRoot) →
+            Shares self.old.heap.core.state self.old.shared o →
+            Shares self.new.heap.core.state self.new.shared o }
     {
         match ask(&mut self.heap, rt, &Command::GcStep { n: count }) {
             Line::Step { t, done } => Ok(Stepped { traced: t, done }),
@@ -131,6 +141,9 @@ impl<'a, G: Gate + Send + Sync + 'static> Oilpan<'a, G> {
         ensures watches { (o : WeakRoot) →
             Watches self.old.heap.core.state self.old.watched o →
             Watches self.new.heap.core.state self.new.watched o }
+        ensures shares { (o : SharedRoot) →
+            Shares self.old.heap.core.state self.old.shared o →
+            Shares self.new.heap.core.state self.new.shared o }
     {
         let finish = Command::GcFinish {
             want: Want::Precise,

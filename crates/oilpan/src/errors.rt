@@ -5,15 +5,22 @@ ghost use Rattle.oilpan.specs.GetErrors.{get_error};
 
 use thiserror::Error;
 
-/// Which handles are all given out: 256 roots, 64 weak roots, 32 shared ones.
+/// Which handles are all given out: 256 roots, or 64 weak roots.
 #[derive(Clone, Copy, Debug, PartialEq, Eq, Drop, Error)]
 pub enum HandleError {
     #[error("all roots are given out")]
     Roots,
     #[error("all weak roots are given out")]
     WeakRoots,
-    #[error("all shared roots are given out")]
-    SharedRoots,
+}
+
+/// Why a root wasn't shared, or a shared root gave none.
+#[derive(Clone, Copy, Debug, PartialEq, Eq, Drop, Error)]
+pub enum ShareError {
+    #[error("no memory")]
+    Memory,
+    #[error("all shared roots, or all roots, are given out")]
+    Handles,
 }
 
 /// Why no object was made. Only a type with prefinalizers wants memory.

@@ -6,8 +6,9 @@ ghost use Rattle.gc_graph.specs.Fields.{is_reference};
 ghost use Rattle.gc_graph.specs.ClearingLaw.{first_held};
 ghost use Rattle.gc_graph.specs.HandleLaw.{with_field};
 ghost use Rattle.oilpan.specs.declared.handles.Root.{Root};
+ghost use Rattle.oilpan.specs.declared.handles.SharedRoot.{SharedRoot};
 ghost use Rattle.oilpan.specs.declared.handles.WeakRoot.{WeakRoot};
-ghost use Rattle.oilpan.specs.Handles.{HasRoom, Holds, Watches};
+ghost use Rattle.oilpan.specs.Handles.{HasRoom, Holds, Shares, Watches};
 ghost use Rattle.oilpan.specs.Fields.{IsFieldDone, IsFieldFault, IsGetFault, IsNamed, HasField};
 
 use crate::asking::write;
@@ -46,6 +47,9 @@ impl<'a, G: Gate + Send + Sync + 'static> Oilpan<'a, G> {
         ensures watches { (o : WeakRoot) →
             Watches self.old.heap.core.state self.old.watched o →
             Watches self.new.heap.core.state self.new.watched o }
+        ensures shares { (o : SharedRoot) →
+            Shares self.old.heap.core.state self.old.shared o →
+            Shares self.new.heap.core.state self.new.shared o }
     {
         let command = Command::Set {
             p: holder.slot,
@@ -78,6 +82,9 @@ impl<'a, G: Gate + Send + Sync + 'static> Oilpan<'a, G> {
         ensures watches { (o : WeakRoot) →
             Watches self.old.heap.core.state self.old.watched o →
             Watches self.new.heap.core.state self.new.watched o }
+        ensures shares { (o : SharedRoot) →
+            Shares self.old.heap.core.state self.old.shared o →
+            Shares self.new.heap.core.state self.new.shared o }
     {
         let command = Command::SetNull {
             p: holder.slot,
@@ -113,6 +120,9 @@ impl<'a, G: Gate + Send + Sync + 'static> Oilpan<'a, G> {
         ensures watches { (o : WeakRoot) →
             Watches self.old.heap.core.state self.old.watched o →
             Watches self.new.heap.core.state self.new.watched o }
+        ensures shares { (o : SharedRoot) →
+            Shares self.old.heap.core.state self.old.shared o →
+            Shares self.new.heap.core.state self.new.shared o }
     {
         let Some(slot) = free_flag(&self.taken, self.likely) else {
             return Err(GetError::Handles);

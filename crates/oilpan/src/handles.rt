@@ -18,6 +18,15 @@ pub struct WeakRoot {
     pub ghost in_range: { slot < 64 },
 }
 
+/// What keeps an object alive until a thread has cleared it (`CrossThreadPersistent`,
+/// `include/cppgc/cross-thread-persistent.h`): a slot of the region, and the number of the node that it
+/// names.
+pub struct SharedRoot {
+    pub(crate) slot: u32,
+    pub(crate) node: u32,
+    pub ghost in_range: { slot < 32 },
+}
+
 impl Root {
     /// The number of the object, by which it is told as finalised. Each object has another.
     pub fn number(&self) -> u32
@@ -29,6 +38,15 @@ impl Root {
 
 impl WeakRoot {
     /// The number of the object that the weak root was made for.
+    pub fn number(&self) -> u32
+        ensures { result ≡ self.now.node }
+    {
+        self.node
+    }
+}
+
+impl SharedRoot {
+    /// The number of the object.
     pub fn number(&self) -> u32
         ensures { result ≡ self.now.node }
     {

@@ -9,9 +9,10 @@ ghost use Rattle.callback_table.specs.Table.{callback_kinds};
 ghost use Rattle.heap_engine.specs.Objects.{HaveCallbacks};
 ghost use Rattle.oilpan.specs.declared.handles.Root.{Root};
 ghost use Rattle.oilpan.specs.Handles.{Holds};
-ghost use Rattle.oilpan.specs.Rest.{IsAtRest};
+ghost use Rattle.oilpan.specs.Rest.{IsAtRest, IsRegionAtRest};
 
 use crate::options::HeapOptions;
+use crate::sharing::Sharing;
 use callback_table::CallbackTable;
 use gc_graph::{Line, NoMemory, empty_is_valid, slots_name_the_live};
 use heap_engine::{Config, Gate, Heap};
@@ -25,10 +26,12 @@ pub struct Oilpan<'a, G> {
     pub(crate) heap: Heap<'a, G>,
     pub(crate) taken: [bool; 256],
     pub(crate) watched: [bool; 64],
+    pub(crate) shared: [Sharing; 32],
     /// A slot that was given back not long ago.
     pub(crate) likely: u32,
     pub ghost opened: { heap.core.closed ≡ false },
     pub ghost at_rest: { IsAtRest heap.core.setup heap.core.state taken },
+    pub ghost region: { IsRegionAtRest heap.core.state shared },
     pub ghost valid: { ∥ IsValid heap.core.setup heap.core.state ∥₁ },
 }
 
@@ -63,11 +66,13 @@ impl<'a, G: Gate + Send + Sync + 'static> Oilpan<'a, G> {
             heap,
             taken: [false; 256],
             watched: [false; 64],
+            shared: [Sharing::Free; 32],
             likely: 0,
         })
     }
 
-    /// How many commands are left of the 2^64 - 1 that a heap does. A call takes one, and `collect` two.
+    /// How many commands are left of the 2^64 - 1 that a heap does. A call takes one, `collect` two,
+    /// and `clear_released` 34.
     pub fn commands_left(&self) -> u64
         ensures { self.now.heap.core.state.ordinal + result ≡ 2 ^ 64 - 1 }
     {
@@ -102,6 +107,7 @@ impl<'a, G: Gate + Send + Sync + 'static> Oilpan<'a, G> {
             mut heap,
             taken: _,
             watched: _,
+            shared: _,
             likely: _,
         } = self;
         heap.close(rt)

@@ -1,33 +1,38 @@
 //! # A heap for programs
 //!
 //! What it is: the heap as a program embeds it. `Oilpan` makes objects, writes and reads their fields,
-//! and collects; what a program holds of its objects are roots and weak roots. None of these is
-//! `Drop`: a root is released, and a heap closed, before it goes.
+//! and collects; what a program holds of its objects are roots, weak roots and shared roots. None of these
+//! is `Drop`: a root is released, and a heap closed, before it goes.
 //!
 //! The parts: `Types`, `BegunObject` and `Names` (the types of objects by chained calls, and the numbers
-//! of their names), `Oilpan`, `HeapOptions`, the handles `Root` and `WeakRoot`, what calls tell
-//! (`Stepped`, `Totals`), and the errors. Within, `Gathered` is a list that tells at its end that memory
-//! was wanting. A call belongs to the thread that has the heap; markers and the pause are its own affair.
+//! of their names), `Oilpan`, `HeapOptions`, the handles `Root`, `WeakRoot` and `SharedRoot`, what calls
+//! tell (`Stepped`, `Totals`), and the errors. Within, `Gathered` is a list that tells at its end that
+//! memory was wanting. A call belongs to the thread that has the heap; markers and the pause are its own
+//! affair.
 //!
 //! | when | calls |
 //! |---|---|
 //! | first | `Types::new` to `done`, `open` |
 //! | then, in any order | `make`, `set`, `get` and the others on fields; `weak`, `upgrade`; `release`, `release_weak` |
+//! | | `share`, `root_of`, `release_shared`; `clear_released` |
 //! | | `collect`, or `start`, `step` and `finish`; `sweep`; `totals`, `finalised` |
 //! | at last | `close` |
 //!
-//! 256 roots and 64 weak roots can be given out at a time. `Memory` means that the allocator gave none, and
+//! 256 roots, 64 weak roots and 32 shared roots can be given out at a time. A shared root that was given
+//! back keeps its object until `clear_released`, in which a thread of its own, thread 1, clears the slot by
+//! an entry of the region's history, and is joined. `Memory` means that the allocator gave none, and
 //! that nothing has changed: `make` says it for types with prefinalizers alone, and `collect` and `start`
 //! at their beginning. A heap does 2^64 - 1 commands. A caller has it that some are left (`HasRoom`) from the
 //! clause `ordinal` of the call before, or asks `commands_left`.
 //!
 //! In `crates.txt` a program's line names `oilpan`, and `gc_graph` for the line that `close` answers. Its
-//! clauses need `Rattle.oilpan.specs.Handles.{HasRoom, Holds, Watches}`.
+//! clauses need `Rattle.oilpan.specs.Handles.{HasRoom, Holds, Shares, Watches}`.
 //!
 //! What is proved: each call does one command of `heap_engine`, and `collect` at most two; what it answers
 //! and what it changes is what `gc_graph` says of that command. A root that holds goes on to hold, through
 //! every call but its own release, and no call gives it out again; what it holds lives. `get` and the reads of
-//! pairs give the node that the field names. A weak root upgrades just where its node lives. A field is
+//! pairs give the node that the field names. A weak root upgrades just where its node lives. A shared root
+//! keeps its node until it is given back, and its slot is null once `clear_released` is Ok. A field is
 //! refused just where the object lacks it, or it is of another kind; a collection is where its phase is
 //! another. A table of types has exactly what was declared, in its order, and a name the number at which it
 //! was declared first.
@@ -37,6 +42,7 @@
 #![tactic(auto)]
 
 mod asking;
+mod clearing;
 mod cycles;
 mod declaring;
 mod errors;
@@ -50,6 +56,8 @@ mod options;
 mod pairs;
 mod reading;
 mod roots;
+mod shared;
+mod sharing;
 mod sweeping;
 mod told;
 mod types;
@@ -59,9 +67,9 @@ mod words;
 
 pub use callback_table::{Callback, CallbackTable};
 pub use errors::{
-    FieldError, GetError, HandleError, MakeError, NotMarking, NotSweeping, StartError,
+    FieldError, GetError, HandleError, MakeError, NotMarking, NotSweeping, ShareError, StartError,
 };
-pub use handles::{Root, WeakRoot};
+pub use handles::{Root, SharedRoot, WeakRoot};
 pub use heap::Oilpan;
 pub use heap_engine::{FreeGate, Gate};
 pub use names::Names;

@@ -6,8 +6,9 @@ ghost use Rattle.gc_graph.specs.Fields.{is_pair};
 ghost use Rattle.gc_graph.specs.ClearingLaw.{first_held, second_held};
 ghost use Rattle.gc_graph.specs.HandleLaw.{with_parts};
 ghost use Rattle.oilpan.specs.declared.handles.Root.{Root};
+ghost use Rattle.oilpan.specs.declared.handles.SharedRoot.{SharedRoot};
 ghost use Rattle.oilpan.specs.declared.handles.WeakRoot.{WeakRoot};
-ghost use Rattle.oilpan.specs.Handles.{HasRoom, Holds, Watches};
+ghost use Rattle.oilpan.specs.Handles.{HasRoom, Holds, Shares, Watches};
 ghost use Rattle.oilpan.specs.Fields.{HasField, IsFieldDone, IsFieldFault, IsGetFault, IsNamed};
 
 use crate::asking::write;
@@ -49,6 +50,9 @@ impl<'a, G: Gate + Send + Sync + 'static> Oilpan<'a, G> {
         ensures watches { (o : WeakRoot) →
             Watches self.old.heap.core.state self.old.watched o →
             Watches self.new.heap.core.state self.new.watched o }
+        ensures shares { (o : SharedRoot) →
+            Shares self.old.heap.core.state self.old.shared o →
+            Shares self.new.heap.core.state self.new.shared o }
     {
         let command = Command::Pair {
             p: holder.slot,
@@ -82,6 +86,9 @@ impl<'a, G: Gate + Send + Sync + 'static> Oilpan<'a, G> {
         ensures watches { (o : WeakRoot) →
             Watches self.old.heap.core.state self.old.watched o →
             Watches self.new.heap.core.state self.new.watched o }
+        ensures shares { (o : SharedRoot) →
+            Shares self.old.heap.core.state self.old.shared o →
+            Shares self.new.heap.core.state self.new.shared o }
     {
         let command = Command::PairNull {
             p: holder.slot,
@@ -117,6 +124,9 @@ impl<'a, G: Gate + Send + Sync + 'static> Oilpan<'a, G> {
         ensures watches { (o : WeakRoot) →
             Watches self.old.heap.core.state self.old.watched o →
             Watches self.new.heap.core.state self.new.watched o }
+        ensures shares { (o : SharedRoot) →
+            Shares self.old.heap.core.state self.old.shared o →
+            Shares self.new.heap.core.state self.new.shared o }
     {
         let Some(slot) = free_flag(&self.taken, self.likely) else {
             return Err(GetError::Handles);
@@ -156,6 +166,9 @@ impl<'a, G: Gate + Send + Sync + 'static> Oilpan<'a, G> {
         ensures watches { (o : WeakRoot) →
             Watches self.old.heap.core.state self.old.watched o →
             Watches self.new.heap.core.state self.new.watched o }
+        ensures shares { (o : SharedRoot) →
+            Shares self.old.heap.core.state self.old.shared o →
+            Shares self.new.heap.core.state self.new.shared o }
     {
         let Some(slot) = free_flag(&self.taken, self.likely) else {
             return Err(GetError::Handles);

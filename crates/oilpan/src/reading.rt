@@ -37,6 +37,7 @@ impl<'a, G: Gate + Send + Sync + 'static> Oilpan<'a, G> {
         ensures slots { IfOk result (λ o. IfSome o (λ r. r.slot ≡ slot)) }
         ensures setup { self.new.heap.core.setup ≡ self.old.heap.core.setup }
         ensures watched { self.new.watched ≡ self.old.watched }
+        ensures shared { self.new.shared ≡ self.old.shared }
     {
         self.taken[slot as usize] = true;
         match read(&mut self.heap, rt, command) {

@@ -3,8 +3,9 @@
 ghost use Rattle.std.specs.Prelude.{◌≡◌, ◌+◌, ◌-◌, ◌^◌, ◌<◌, ◌≤◌, length, IfOk, IfErr, None};
 ghost use Rattle.gc_graph.specs.Outcomes.{answered, with_slot};
 ghost use Rattle.oilpan.specs.declared.handles.Root.{Root};
+ghost use Rattle.oilpan.specs.declared.handles.SharedRoot.{SharedRoot};
 ghost use Rattle.oilpan.specs.declared.handles.WeakRoot.{WeakRoot};
-ghost use Rattle.oilpan.specs.Handles.{HasRoom, Holds, Watches};
+ghost use Rattle.oilpan.specs.Handles.{HasRoom, Holds, Shares, Watches};
 ghost use Rattle.oilpan.specs.Made.{IsMade, IsMakeFault};
 
 use crate::asking::ask;
@@ -43,6 +44,9 @@ impl<'a, G: Gate + Send + Sync + 'static> Oilpan<'a, G> {
         ensures watches { (o : WeakRoot) →
             Watches self.old.heap.core.state self.old.watched o →
             Watches self.new.heap.core.state self.new.watched o }
+        ensures shares { (o : SharedRoot) →
+            Shares self.old.heap.core.state self.old.shared o →
+            Shares self.new.heap.core.state self.new.shared o }
     {
         let Some(slot) = free_flag(&self.taken, self.likely) else {
             return Err(MakeError::Handles);
@@ -79,6 +83,9 @@ impl<'a, G: Gate + Send + Sync + 'static> Oilpan<'a, G> {
         ensures watches { (o : WeakRoot) →
             Watches self.old.heap.core.state self.old.watched o →
             Watches self.new.heap.core.state self.new.watched o }
+        ensures shares { (o : SharedRoot) →
+            Shares self.old.heap.core.state self.old.shared o →
+            Shares self.new.heap.core.state self.new.shared o }
     {
         let Root { slot, node: _ } = root;
         let _line = ask(&mut self.heap, rt, &Command::Drop { p: slot });

@@ -6,9 +6,10 @@ ghost use Rattle.gc_graph.specs.CycleSteps.{HasSwept};
 ghost use Rattle.gc_graph.specs.Outcomes.{answered};
 ghost use Rattle.heap_engine.specs.Printed.{finalised_in};
 ghost use Rattle.oilpan.specs.declared.handles.Root.{Root};
+ghost use Rattle.oilpan.specs.declared.handles.SharedRoot.{SharedRoot};
 ghost use Rattle.oilpan.specs.declared.handles.WeakRoot.{WeakRoot};
 ghost use Rattle.oilpan.specs.Cycles.{AreTotals, IsOutOf, pages_after};
-ghost use Rattle.oilpan.specs.Handles.{HasRoom, Holds, Watches};
+ghost use Rattle.oilpan.specs.Handles.{HasRoom, Holds, Shares, Watches};
 
 use crate::asking::ask;
 use crate::errors::NotSweeping;
@@ -42,6 +43,9 @@ impl<'a, G: Gate + Send + Sync + 'static> Oilpan<'a, G> {
         ensures watches { (o : WeakRoot) →
             Watches self.old.heap.core.state self.old.watched o →
             Watches self.new.heap.core.state self.new.watched o }
+        ensures shares { (o : SharedRoot) →
+            Shares self.old.heap.core.state self.old.shared o →
+            Shares self.new.heap.core.state self.new.shared o }
     {
         match ask(&mut self.heap, rt, &Command::Sweep { n: count }) {
             Line::Swept { c } => Ok(c),
@@ -61,6 +65,9 @@ impl<'a, G: Gate + Send + Sync + 'static> Oilpan<'a, G> {
         ensures watches { (o : WeakRoot) →
             Watches self.old.heap.core.state self.old.watched o →
             Watches self.new.heap.core.state self.new.watched o }
+        ensures shares { (o : SharedRoot) →
+            Shares self.old.heap.core.state self.old.shared o →
+            Shares self.new.heap.core.state self.new.shared o }
     {
         match ask(&mut self.heap, rt, &Command::Stat) {
             Line::Objects { n, u, g } => Totals {

@@ -1,16 +1,15 @@
-use Rattle.std.proofs.Common.{◌≡◌, [], ap, ◌∙◌, sym, subst}
-use Rattle.gc_graph.specs.declared.phase.Phase.TheVariants.{Marking}
+use Rattle.std.proofs.Common.{◌≡◌, [], ap, ◌∙◌}
 use Rattle.gc_graph.specs.State.{State}
-use Rattle.gc_graph.specs.Outcomes.{answered}
 use Rattle.oilpan.proofs.Cycling.{was_marking, left, collected, sweeps, exact, finish_sweeps}
-use Rattle.oilpan.proofs.Frames.{watch, stay}
-use Rattle.oilpan.proofs.Keeping.{still, valid}
+use Rattle.oilpan.proofs.Frames.{watch}
+use Rattle.oilpan.proofs.Keeping.{apart, still, valid}
 use Rattle.oilpan.proofs.heap.Oilpan.collect.Goals as goal
 
 pub invariant_of-self : goal.invariant_of-self
 invariant_of-self g c = record {
   opened = c.ask.ensures.opened;
   at_rest = still _ _ c.ask.ensures.setup _ _ _ _ _ _ c.ask.ensures.asked _ c.args.self.now.at_rest (λ z writes. writes);
+  region = apart _ _ c.ask.ensures.setup _ _ _ _ _ _ c.ask.ensures.asked _ c.args.self.now.at_rest _ c.args.self.now.region (λ z writes. writes);
   valid = valid _ _ c.ask.ensures.setup _ _ _ _ _ _ c.ask.ensures.asked c.args.self.now.valid;
 }
 
@@ -19,6 +18,10 @@ invariant_of-self-in-Refused g c = record {
   opened = c.ask-line.ensures.opened;
   at_rest = still _ _ c.ask-line.ensures.setup _ _ _ _ _ _ c.ask-line.ensures.asked _
       (still _ _ c.ask.ensures.setup _ _ _ _ _ _ c.ask.ensures.asked _ c.args.self.now.at_rest (λ z writes. writes)) (λ z writes. writes);
+  region = apart _ _ c.ask-line.ensures.setup _ _ _ _ _ _ c.ask-line.ensures.asked _
+      (still _ _ c.ask.ensures.setup _ _ _ _ _ _ c.ask.ensures.asked _ c.args.self.now.at_rest (λ z writes. writes)) _
+      (apart _ _ c.ask.ensures.setup _ _ _ _ _ _ c.ask.ensures.asked _ c.args.self.now.at_rest _ c.args.self.now.region (λ z writes. writes))
+      (λ z writes. writes);
   valid = valid _ _ c.ask-line.ensures.setup _ _ _ _ _ _ c.ask-line.ensures.asked
       (valid _ _ c.ask.ensures.setup _ _ _ _ _ _ c.ask.ensures.asked c.args.self.now.valid);
 }
@@ -27,6 +30,7 @@ pub invariant_of-self-in_default : goal.invariant_of-self-in_default
 invariant_of-self-in_default g c = record {
   opened = c.ask.ensures.opened;
   at_rest = still _ _ c.ask.ensures.setup _ _ _ _ _ _ c.ask.ensures.asked _ c.args.self.now.at_rest (λ z writes. writes);
+  region = apart _ _ c.ask.ensures.setup _ _ _ _ _ _ c.ask.ensures.asked _ c.args.self.now.at_rest _ c.args.self.now.region (λ z writes. writes);
   valid = valid _ _ c.ask.ensures.setup _ _ _ _ _ _ c.ask.ensures.asked c.args.self.now.valid;
 }
 

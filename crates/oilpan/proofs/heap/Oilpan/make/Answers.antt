@@ -1,12 +1,8 @@
-use Rattle.std.proofs.Common.{◌≡◌, ◌<◌, List, Bool, true, false, length, Some, None, sym, arith, get_or, set as slice_set}
+use Rattle.std.proofs.Common.{true}
 use Rattle.std.proofs.lemmas.List.{get_or-set_same}
-use Rattle.gc_graph.specs.declared.command.Command.TheVariants as C
-use Rattle.gc_graph.specs.Outcomes.{slot_at}
-use Rattle.oilpan.specs.Asked.{IsAsked}
-use Rattle.oilpan.specs.Rest.{IsAtRest}
-use Rattle.oilpan.proofs.Frames.{watch, stay_beside, fresh}
-use Rattle.oilpan.proofs.Keeping.{given, valid}
-use Rattle.oilpan.proofs.Making.{placed, full_null, full_count, memory_null, memory_same, new_lines}
+use Rattle.oilpan.proofs.Frames.{watch}
+use Rattle.oilpan.proofs.Keeping.{apart, given, valid}
+use Rattle.oilpan.proofs.Making.{full_null, memory_null}
 use Rattle.oilpan.proofs.Resting.{rest_more, rest_less}
 use Rattle.oilpan.proofs.heap.Oilpan.make.Goals as goal
 
@@ -16,6 +12,7 @@ invariant_of-self-in-Placed-1 g c = record {
   at_rest = given _ _ c.ask.ensures.setup _ _ _ _ _ _ c.ask.ensures.asked _
       (rest_more _ _ c.args.self.now.taken c.in-Some.slot c.in-Some.ensures.low c.args.self.now.at_rest) c.in-Some.slot (λ z writes. writes)
       (get_or-set_same c.args.self.now.taken c.in-Some.slot true true c.in-Some.ensures.low);
+  region = apart _ _ c.ask.ensures.setup _ _ _ _ _ _ c.ask.ensures.asked _ c.args.self.now.at_rest _ c.args.self.now.region (λ z writes. writes);
   valid = valid _ _ c.ask.ensures.setup _ _ _ _ _ _ c.ask.ensures.asked c.args.self.now.valid;
 }
 
@@ -27,6 +24,7 @@ invariant_of-self-in-Full g c = record {
       (given _ _ c.ask.ensures.setup _ _ _ _ _ _ c.ask.ensures.asked _
       (rest_more _ _ c.args.self.now.taken c.in-Some.slot c.in-Some.ensures.low c.args.self.now.at_rest) c.in-Some.slot (λ z writes. writes)
       (get_or-set_same c.args.self.now.taken c.in-Some.slot true true c.in-Some.ensures.low));
+  region = apart _ _ c.ask.ensures.setup _ _ _ _ _ _ c.ask.ensures.asked _ c.args.self.now.at_rest _ c.args.self.now.region (λ z writes. writes);
   valid = valid _ _ c.ask.ensures.setup _ _ _ _ _ _ c.ask.ensures.asked c.args.self.now.valid;
 }
 
@@ -38,6 +36,7 @@ invariant_of-self-in-Memory g c = record {
       (given _ _ c.ask.ensures.setup _ _ _ _ _ _ c.ask.ensures.asked _
       (rest_more _ _ c.args.self.now.taken c.in-Some.slot c.in-Some.ensures.low c.args.self.now.at_rest) c.in-Some.slot (λ z writes. writes)
       (get_or-set_same c.args.self.now.taken c.in-Some.slot true true c.in-Some.ensures.low));
+  region = apart _ _ c.ask.ensures.setup _ _ _ _ _ _ c.ask.ensures.asked _ c.args.self.now.at_rest _ c.args.self.now.region (λ z writes. writes);
   valid = valid _ _ c.ask.ensures.setup _ _ _ _ _ _ c.ask.ensures.asked c.args.self.now.valid;
 }
 

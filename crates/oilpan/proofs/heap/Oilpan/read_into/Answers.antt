@@ -1,10 +1,10 @@
-use Rattle.std.proofs.Common.{◌<◌, Bool, true, false, Option, Some, None, Result, Ok, Err, length, arith, subst, ap, ◌∙◌}
+use Rattle.std.proofs.Common.{◌<◌, true, Ok, length, arith, subst, ap, ◌∙◌}
 use Rattle.std.proofs.lemmas.List.{get_or-set_same}
 use Rattle.gc_graph.specs.HandleLaw.{Means}
-use Rattle.oilpan.specs.Asked.{IsAsked, line_of_read}
-use Rattle.oilpan.proofs.Keeping.{given, valid}
+use Rattle.oilpan.specs.Asked.{line_of_read}
+use Rattle.oilpan.proofs.Keeping.{apart, given, valid}
 use Rattle.oilpan.proofs.Resting.{rest_more, rest_less}
-use Rattle.oilpan.proofs.FieldReads.{reads_one, null_read, refused_read}
+use Rattle.oilpan.proofs.FieldReads.{reads_apart, reads_one, null_read, refused_read}
 use Rattle.oilpan.proofs.heap.Oilpan.read_into.Goals as goal
 
 pub invariant_of-self : goal.invariant_of-self
@@ -15,6 +15,7 @@ invariant_of-self g c =
       at_rest = given _ _ c.read.ensures.setup _ _ _ _ _ _ c.read.ensures.asked _
           (rest_more _ _ c.args.self.now.taken c.args.slot room c.args.self.now.at_rest) c.args.slot (reads_one _ _ c.requires.into)
           (get_or-set_same c.args.self.now.taken c.args.slot true true room);
+      region = apart _ _ c.read.ensures.setup _ _ _ _ _ _ c.read.ensures.asked _ c.args.self.now.at_rest _ c.args.self.now.region (reads_apart _ _ c.requires.into);
       valid = valid _ _ c.read.ensures.setup _ _ _ _ _ _ c.read.ensures.asked c.args.self.now.valid;
     }
 
@@ -32,6 +33,7 @@ invariant_of-self-in-Ok-None g c =
           (given _ _ c.read.ensures.setup _ _ _ _ _ _ c.read.ensures.asked _
           (rest_more _ _ c.args.self.now.taken c.args.slot room c.args.self.now.at_rest) c.args.slot (reads_one _ _ c.requires.into)
           (get_or-set_same c.args.self.now.taken c.args.slot true true room));
+      region = apart _ _ c.read.ensures.setup _ _ _ _ _ _ c.read.ensures.asked _ c.args.self.now.at_rest _ c.args.self.now.region (reads_apart _ _ c.requires.into);
       valid = valid _ _ c.read.ensures.setup _ _ _ _ _ _ c.read.ensures.asked c.args.self.now.valid;
     }
 
@@ -49,5 +51,6 @@ invariant_of-self-in-Err g c =
           (given _ _ c.read.ensures.setup _ _ _ _ _ _ c.read.ensures.asked _
           (rest_more _ _ c.args.self.now.taken c.args.slot room c.args.self.now.at_rest) c.args.slot (reads_one _ _ c.requires.into)
           (get_or-set_same c.args.self.now.taken c.args.slot true true room));
+      region = apart _ _ c.read.ensures.setup _ _ _ _ _ _ c.read.ensures.asked _ c.args.self.now.at_rest _ c.args.self.now.region (reads_apart _ _ c.requires.into);
       valid = valid _ _ c.read.ensures.setup _ _ _ _ _ _ c.read.ensures.asked c.args.self.now.valid;
     }

@@ -1,7 +1,6 @@
 use Rattle.std.proofs.Common.{◌<◌, length, arith}
-use Rattle.oilpan.specs.Rest.{IsAtRest}
 use Rattle.oilpan.proofs.Frames.{watch, stay_but}
-use Rattle.oilpan.proofs.Keeping.{nulled, valid}
+use Rattle.oilpan.proofs.Keeping.{apart, nulled, valid}
 use Rattle.oilpan.proofs.Resting.{rest_less}
 use Rattle.oilpan.proofs.Slots.{dropped, dropped_null}
 use Rattle.oilpan.proofs.heap.Oilpan.release.Goals as goal
@@ -14,6 +13,7 @@ invariant_of-self g c =
       at_rest = rest_less _ _ _ c.args.root.slot (dropped_null _ _ _ _ _ _ _ c.ask-line.ensures.asked low)
           (nulled _ _ c.ask-line.ensures.setup _ _ _ _ _ _ c.ask-line.ensures.asked _ c.args.self.now.at_rest c.args.root.slot (λ z writes. writes)
           (dropped_null _ _ _ _ _ _ _ c.ask-line.ensures.asked low));
+      region = apart _ _ c.ask-line.ensures.setup _ _ _ _ _ _ c.ask-line.ensures.asked _ c.args.self.now.at_rest _ c.args.self.now.region (λ z writes. writes);
       valid = valid _ _ c.ask-line.ensures.setup _ _ _ _ _ _ c.ask-line.ensures.asked c.args.self.now.valid;
     }
 

@@ -1,5 +1,5 @@
 use Rattle.oilpan.proofs.Frames.{watch, stay}
-use Rattle.oilpan.proofs.Keeping.{still, valid}
+use Rattle.oilpan.proofs.Keeping.{apart, still, valid}
 use Rattle.oilpan.proofs.Stepping.{counted, totals, total_lines}
 use Rattle.oilpan.proofs.heap.Oilpan.totals.Goals as goal
 
@@ -7,6 +7,7 @@ pub invariant_of-self : goal.invariant_of-self
 invariant_of-self g c = record {
   opened = c.ask.ensures.opened;
   at_rest = still _ _ c.ask.ensures.setup _ _ _ _ _ _ c.ask.ensures.asked _ c.args.self.now.at_rest (λ z writes. writes);
+  region = apart _ _ c.ask.ensures.setup _ _ _ _ _ _ c.ask.ensures.asked _ c.args.self.now.at_rest _ c.args.self.now.region (λ z writes. writes);
   valid = valid _ _ c.ask.ensures.setup _ _ _ _ _ _ c.ask.ensures.asked c.args.self.now.valid;
 }
 

@@ -1,10 +1,8 @@
-use Rattle.std.proofs.Common.{◌<◌, true, length, arith, sym, ap, ◌∙◌}
+use Rattle.std.proofs.Common.{◌<◌, true, length, arith}
 use Rattle.std.proofs.lemmas.List.{get_or-set_same}
-use Rattle.gc_graph.specs.State.{State}
-use Rattle.oilpan.proofs.Frames.{watch, stay_beside, fresh}
-use Rattle.oilpan.proofs.Keeping.{given, valid}
+use Rattle.oilpan.proofs.Keeping.{apart, given, valid}
 use Rattle.oilpan.proofs.Resting.{rest_more, rest_less}
-use Rattle.oilpan.proofs.Slots.{upgraded, not_upgraded, upgraded_names, not_upgraded_null, upgrade_lines}
+use Rattle.oilpan.proofs.Slots.{not_upgraded_null, upgrade_lines}
 use Rattle.oilpan.proofs.heap.Oilpan.upgrade.Goals as goal
 
 pub invariant_of-self-in-Node-1 : goal.invariant_of-self-in-Node-1
@@ -13,6 +11,7 @@ invariant_of-self-in-Node-1 g c = record {
   at_rest = given _ _ c.ask.ensures.setup _ _ _ _ _ _ c.ask.ensures.asked _
       (rest_more _ _ c.args.self.now.taken c.in-Some.slot c.in-Some.ensures.low c.args.self.now.at_rest) c.in-Some.slot (λ z writes. writes)
       (get_or-set_same c.args.self.now.taken c.in-Some.slot true true c.in-Some.ensures.low);
+  region = apart _ _ c.ask.ensures.setup _ _ _ _ _ _ c.ask.ensures.asked _ c.args.self.now.at_rest _ c.args.self.now.region (λ z writes. writes);
   valid = valid _ _ c.ask.ensures.setup _ _ _ _ _ _ c.ask.ensures.asked c.args.self.now.valid;
 }
 
@@ -25,6 +24,7 @@ invariant_of-self-in-Null g c =
           (given _ _ c.ask.ensures.setup _ _ _ _ _ _ c.ask.ensures.asked _
           (rest_more _ _ c.args.self.now.taken c.in-Some.slot c.in-Some.ensures.low c.args.self.now.at_rest) c.in-Some.slot (λ z writes. writes)
           (get_or-set_same c.args.self.now.taken c.in-Some.slot true true c.in-Some.ensures.low));
+      region = apart _ _ c.ask.ensures.setup _ _ _ _ _ _ c.ask.ensures.asked _ c.args.self.now.at_rest _ c.args.self.now.region (λ z writes. writes);
       valid = valid _ _ c.ask.ensures.setup _ _ _ _ _ _ c.ask.ensures.asked c.args.self.now.valid;
     }
 

@@ -1,15 +1,14 @@
-use Rattle.std.proofs.Common.{◌<◌, true, length, arith, sym, ap, subst}
+use Rattle.std.proofs.Common.{◌<◌, true, length, arith}
 use Rattle.std.proofs.lemmas.List.{get_or-set_same}
-use Rattle.gc_graph.specs.State.{State}
-use Rattle.oilpan.proofs.Frames.{stay}
-use Rattle.oilpan.proofs.Keeping.{still, valid}
-use Rattle.oilpan.proofs.Slots.{weakened, tells_now, watch_beside, weak_apart}
+use Rattle.oilpan.proofs.Keeping.{apart, still, valid}
+use Rattle.oilpan.proofs.Slots.{tells_now}
 use Rattle.oilpan.proofs.heap.Oilpan.weak.Goals as goal
 
 pub invariant_of-self : goal.invariant_of-self
 invariant_of-self g c = record {
   opened = c.ask-line.ensures.opened;
   at_rest = still _ _ c.ask-line.ensures.setup _ _ _ _ _ _ c.ask-line.ensures.asked _ c.args.self.now.at_rest (λ z writes. writes);
+  region = apart _ _ c.ask-line.ensures.setup _ _ _ _ _ _ c.ask-line.ensures.asked _ c.args.self.now.at_rest _ c.args.self.now.region (λ z writes. writes);
   valid = valid _ _ c.ask-line.ensures.setup _ _ _ _ _ _ c.ask-line.ensures.asked c.args.self.now.valid;
 }
 
