@@ -1,0 +1,11 @@
+-- What the calls of this program want of a heap.
+use Rattle.std.specs.Prelude.{◌≡◌, ℕ, ◌+◌, ◌≤◌, length}
+use Rattle.heap_engine.specs.View.{View}
+
+-- the heap has the one type and room for so many commands
+abbrev pub IsReady : ℕ → View → Type 0
+IsReady count heap = (length heap.setup.types ≡ 1) × (heap.state.ordinal + count ≤ 1000)
+
+-- at most so many commands were done
+abbrev pub Took : ℕ → View → View → Type 0
+Took count old new = (new.setup ≡ old.setup) × (new.state.ordinal ≤ old.state.ordinal + count)
