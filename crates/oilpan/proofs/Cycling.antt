@@ -1,6 +1,7 @@
 -- What the answers of the commands of the cycle tell.
-use Rattle.std.proofs.Common.{◌≡◌, ◌≢◌, List, [], refl, ap, ◌∙◌, subst, inl, inr}
+use Rattle.std.proofs.Common.{◌≡◌, ◌≢◌, ◌↔◌, ℕ, List, [], Option, Some, None, refl, sym, ap, ◌∙◌, subst, inl, inr}
 use Rattle.std.proofs.Math.Logic.{∥∥₁_elim}
+use Rattle.std.proofs.Props.{props}
 use mathlib.Core.Bool.{Bool-set}
 use Rattle.gc_graph.specs.declared.command.Command.{Command}
 use Rattle.gc_graph.specs.declared.command.Command.TheVariants as C
@@ -16,6 +17,7 @@ use Rattle.gc_graph.specs.Outcomes.{answered}
 use Rattle.gc_graph.specs.CycleSteps.{IsFinished, IsCollection}
 use Rattle.gc_graph.specs.Commands.{HasReason}
 use Rattle.gc_graph.specs.CollectionLaw.{CollectsUnreached, CondemnsUnreached}
+use Rattle.gc_graph.specs.RefusalLaw.{IsLeftAlone}
 use Rattle.gc_graph.specs.Valid.{IsValid}
 use Rattle.gc_graph.specs.HandleLaw.{MeansCycle, IsTurnedDown}
 use Rattle.oilpan.specs.Asked.{IsAsked}

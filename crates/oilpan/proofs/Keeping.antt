@@ -10,11 +10,9 @@ use Rattle.gc_graph.specs.Commands.{WritesSlot}
 use Rattle.gc_graph.specs.Valid.{IsValid}
 use Rattle.oilpan.specs.Asked.{IsAsked}
 use Rattle.oilpan.specs.Rest.{IsAtRest, IsRegionAtRest}
-use Rattle.oilpan.specs.Handles.{Shares}
 use Rattle.oilpan.specs.Region.{WritesRegion}
-use Rattle.oilpan.specs.declared.handles.SharedRoot.{SharedRoot}
 use Rattle.oilpan.specs.declared.sharing.Sharing.{Sharing}
-use Rattle.oilpan.proofs.Regions.{region_still, share_stays}
+use Rattle.oilpan.proofs.Regions.{region_still}
 use Rattle.oilpan.proofs.Resting.{rest_same, rest_given, rest_nulled}
 
 module _ (setup after : Setup) (same : after ≡ setup) (old new : State) (command : Command) (piece : List Entry) (lines : List Line) (line : Line)
@@ -40,8 +38,3 @@ module _ (setup after : Setup) (same : after ≡ setup) (old new : State) (comma
   pub apart : (taken : List Bool) → IsAtRest setup old taken → (shared : List Sharing) → IsRegionAtRest old shared → ((z : ℕ) → WritesRegion command z → ⊥)
       → IsRegionAtRest new shared
   apart taken rest shared region none = region_still old new command (asked.region rest.running) shared region none
-
-  -- so shared roots stay
-  pub shared : (taken : List Bool) → IsAtRest setup old taken → (flags : List Sharing) → ((z : ℕ) → WritesRegion command z → ⊥) → (o : SharedRoot)
-      → Shares old flags o → Shares new flags o
-  shared taken rest flags none o h = share_stays old new command (asked.region rest.running) flags none o h

@@ -1,4 +1,4 @@
--- The region stays at rest, and shared roots stay, where a command leaves the region's slots.
+-- The region stays at rest where a command leaves the region's slots.
 use Rattle.std.proofs.Common.{◌≡◌, ◌≢◌, ◌-◌, ◌<◌, ℕ, true, true≢false, List, [], length, refl, sym, ap, ◌∙◌, subst, inl, inr, get_or, set as slice_set, zero, suc, replicate, All}
 use Rattle.std.proofs.lemmas.Bool.{cases_eq}
 use Rattle.std.proofs.lemmas.List.{get_or-set_same, get_or-set_other}
@@ -10,10 +10,8 @@ use Rattle.gc_graph.specs.State.{State, empty_state}
 use Rattle.gc_graph.specs.State.RegionSlot.{Vacant}
 use Rattle.gc_graph.specs.Outcomes.{answered}
 use Rattle.gc_graph.specs.RegionSteps.{queue_of}
-use Rattle.oilpan.specs.declared.handles.SharedRoot.{SharedRoot}
 use Rattle.oilpan.specs.declared.sharing.Sharing.{Sharing}
 use Rattle.oilpan.specs.declared.sharing.Sharing.TheVariants.{Free, Given, Released}
-use Rattle.oilpan.specs.Handles.{Shares}
 use Rattle.oilpan.specs.Region.{WritesRegion, KeepsRegion}
 use Rattle.oilpan.specs.Rest.{IsOwners, is_released, ClearsReleased, IsRegionAtRest}
 
@@ -65,10 +63,6 @@ module _ (s : State) (shared : List Sharing) (x : ℕ) (low : x < length shared)
   pub rest_shared : get_or shared x Free ≡ Free → IsRegionAtRest s (slice_set shared x Given)
   rest_shared free = rest_flag Given (λ e. cc) (λ e. cc)
 
-  -- a slot is given back
-  pub rest_released : IsRegionAtRest s (slice_set shared x Released)
-  rest_released = rest_flag Released (λ e. cc) (λ e. refl)
-
 -- ---- a command
 
 module _ (old new : State) (command : Command) (keeps : KeepsRegion old command new) (shared : List Sharing) where
@@ -91,37 +85,11 @@ module _ (old new : State) (command : Command) (keeps : KeepsRegion old command 
   region_given rest x one given =
       rest_where rest (λ z is writes. let here : get_or shared x Free ≡ Free = subst (λ i. get_or shared i Free ≡ Free) (one z writes) is in cc)
 
-  -- no slot of the region was written
-  pub share_stays : ((z : ℕ) → WritesRegion command z → ⊥) → (o : SharedRoot) → Shares old shared o → Shares new shared o
-  share_stays none o h = record { given = h.given; names = keeps.strong o.slot o.node (none o.slot) h.names }
-
-  -- slot x was written, which wasn't given out
-  pub share_beside : (x : ℕ) → ((z : ℕ) → WritesRegion command z → z ≡ x) → get_or shared x Free ≡ Free → (o : SharedRoot) → Shares old shared o
-      → Shares new (slice_set shared x Given) o
-  share_beside x one free o h =
-      let other : o.slot ≢ x = λ same. (let here : get_or shared x Free ≡ Given = subst (λ i. get_or shared i Free ≡ Given) same h.given in cc) in
-      record {
-        given = get_or-set_other shared x o.slot Given Free other ∙ h.given;
-        names = keeps.strong o.slot o.node (λ writes. other (one o.slot writes)) h.names;
-      }
-
--- a shared root has another slot than a free one
-pub share_fresh : (s : State) (shared : List Sharing) (x : ℕ) → get_or shared x Free ≡ Free → (o : SharedRoot) → Shares s shared o → o.slot ≡ x → ⊥
-share_fresh s shared x free o h same = (let here : get_or shared x Free ≡ Given = subst (λ i. get_or shared i Free ≡ Given) same h.given in cc)
-
--- a slot is given back, and the other shared roots stay
-pub share_released : (s : State) (shared : List Sharing) (x : ℕ) (o : SharedRoot) → Shares s shared o → (o.slot ≡ x → ⊥) → Shares s (slice_set shared x Released) o
-share_released s shared x o h other = record { given = get_or-set_other shared x o.slot Released Free other ∙ h.given; names = h.names }
-
 -- nothing but the count of commands has changed
 pub region_answered : (old new : State) (shared : List Sharing) → new ≡ answered old → IsRegionAtRest old shared → IsRegionAtRest new shared
 region_answered old new shared is rest =
     subst (λ s. IsRegionAtRest s shared) (sym is)
     (record { slots = rest.slots; queues = rest.queues; free = rest.free; orders = rest.orders; awaiting = rest.awaiting; told = rest.told })
-
--- so it is with shared roots
-pub share_answered : (old new : State) (shared : List Sharing) → new ≡ answered old → (o : SharedRoot) → Shares old shared o → Shares new shared o
-share_answered old new shared is o h = subst (λ s. Shares s shared o) (sym is) (record { given = h.given; names = h.names })
 
 -- ---- a new heap
 

@@ -1,5 +1,5 @@
 -- A heap stays at rest where a command leaves the slots that it doesn't write.
-use Rattle.std.proofs.Common.{◌≡◌, ◌<◌, ℕ, Bool, true, false, List, length, Option, None, refl, sym, ap, ◌∙◌, subst, inl, inr, true≢false, get_or, set as slice_set, zero, suc, replicate}
+use Rattle.std.proofs.Common.{◌≡◌, ◌≢◌, ◌==◌, ◌<◌, ℕ, Bool, true, false, List, length, Option, Some, None, refl, sym, ap, ◌∙◌, subst, inl, inr, true≢false, get_or, set as slice_set, zero, suc, replicate, arith}
 use Rattle.std.proofs.lemmas.Bool.{cases_eq}
 use Rattle.std.proofs.lemmas.List.{get_or-set_same, get_or-set_other}
 use Rattle.gc_graph.specs.declared.command.Command.{Command}

@@ -1,5 +1,6 @@
 -- What the answers of the commands on slots tell.
-use Rattle.std.proofs.Common.{◌≡◌, ◌≢◌, ◌<◌, ℕ, Bool, true, false, true≢false, List, length, Some, None, refl, sym, ap, ◌∙◌, subst, inl, inr, get_or, set as slice_set, if◌then◌else◌}
+use Rattle.std.proofs.Common.{◌≡◌, ◌≢◌, ◌<◌, ℕ, Bool, true, false, true≢false, List, length, Option, Some, None, refl, sym, ap, ◌∙◌, subst, inl, inr, get_or, set as slice_set, arith, if◌then◌else◌}
+use Rattle.std.specs.Prelude.{option_map}
 use Rattle.std.proofs.lemmas.List.{get_or-set_same, get_or-set_other}
 use Rattle.std.proofs.Math.Logic.{∥∥₁_elim}
 use Rattle.gc_graph.specs.declared.command.Command.{Command}
@@ -9,13 +10,13 @@ use Rattle.gc_graph.specs.declared.line.Line.TheVariants as L
 use Rattle.gc_graph.specs.declared.line.Refusal.{Refusal}
 use Rattle.gc_graph.specs.declared.line.Refusal.TheVariants as R
 use Rattle.gc_graph.specs.declared.region.Entry.{Entry}
-use Rattle.gc_graph.specs.State.{Setup, State, is_live, IsLive}
+use Rattle.gc_graph.specs.State.{Setup, State, Node, node_at, is_live, IsLive}
 use Rattle.gc_graph.specs.NodeNumbers.{live_below}
 use Rattle.gc_graph.specs.May.{read_node}
 use Rattle.gc_graph.specs.Outcomes.{answered, slot_at, weak_slot_at, with_slot}
 use Rattle.gc_graph.specs.Commands.{HasReason}
 use Rattle.gc_graph.specs.Valid.{IsValid}
-use Rattle.gc_graph.specs.HandleLaw.{MeansDone, MeansRead, TellsLife, while_live, SlotsNameTheLive}
+use Rattle.gc_graph.specs.HandleLaw.{MeansDone, MeansRead, IsTurnedDown, TellsLife, while_live, SlotsNameTheLive}
 use Rattle.oilpan.specs.declared.handles.WeakRoot.{WeakRoot}
 use Rattle.oilpan.specs.Asked.{IsAsked}
 use Rattle.oilpan.specs.Handles.{Watches}

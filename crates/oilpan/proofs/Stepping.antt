@@ -1,7 +1,8 @@
 -- What the answers of a start, a step, a pause and a sweep tell.
-use Rattle.std.proofs.Common.{◌≡◌, ◌≢◌, ℕ, ◌+◌, ◌-◌, ◌≤◌, ◌++◌, nat_lt, List, [], ◌∷◌, Bool, length, Some, refl, sym, ap, ◌∙◌, subst, inl, inr, arith}
+use Rattle.std.proofs.Common.{◌≡◌, ◌≢◌, ℕ, ◌+◌, ◌-◌, ◌<◌, ◌≤◌, ◌++◌, nat_lt, min, List, [], ◌∷◌, Bool, length, Option, Some, None, refl, sym, ap, ◌∙◌, subst, inl, inr, arith}
 use Rattle.std.specs.Prelude.{slice_get}
 use Rattle.std.proofs.lemmas.List.{length-append}
+use Rattle.gc_graph.specs.declared.command.Command.{Command}
 use Rattle.gc_graph.specs.declared.command.Command.TheVariants as C
 use Rattle.gc_graph.specs.declared.command.Want.TheVariants.{Precise}
 use Rattle.gc_graph.specs.declared.line.Line.{Line}
@@ -19,6 +20,8 @@ use Rattle.gc_graph.specs.HandleLaw.{IsLast, MeansCycle, IsTurnedDown}
 use Rattle.gc_graph.specs.RefusalLaw.{IsLeftAlone}
 use Rattle.oilpan.specs.Asked.{IsAsked}
 use Rattle.oilpan.specs.Cycles.{IsOutOf, IsStepped, AreTotals, pages_after}
+use Rattle.oilpan.specs.declared.told.Stepped.{Stepped}
+use Rattle.oilpan.specs.declared.told.Totals.{Totals}
 
 -- ---- the last of some lines
 

@@ -44,10 +44,6 @@ each_queue s whole P none each j = elim (cases_lt (j - 1) 8) [
   | inr past ↦ subst P (sym (get_or_past s.queues (j - 1) [] (omega (arith, past, whole)))) none
 ]
 
--- where nothing has been done yet
-pub queued_none : (s : State) (shared : List Sharing) → IsRegionAtRest s shared → AreQueued s s shared
-queued_none s shared rest = record { same = refl; queues = rest.queues; orders = rest.orders }
-
 module _ (setup : Setup) (old s new : State) (shared : List Sharing) (x : ℕ) (piece : List Entry) (lines : List Line)
     (step : Step setup s (C.At 1 (Q.Clear x)) piece lines new) (q : AreQueued old s shared) (released : get_or shared x Free ≡ Released) where
   all_behind : All (ClearsReleased shared) (queue_of s 1 ++ Q.Clear x ∷ [])
@@ -80,16 +76,6 @@ module _ (setup : Setup) (old s new : State) (shared : List Sharing) (x : ℕ) (
           orders = orders_after;
         })
   ]
-
--- no join is awaited before, and one is after a start
-pub queued_awaits : (old s : State) (shared : List Sharing) → AreQueued old s shared → IsRegionAtRest old shared → s.awaiting ≡ false
-queued_awaits old s shared q rest = ap (λ (t : State). t.awaiting) q.same ∙ rest.awaiting
-
-pub go_awaits : (setup : Setup) (s mid : State) (piece : List Entry) (lines : List Line) → Step setup s C.ThreadsGo piece lines mid → mid.awaiting ≡ true
-go_awaits setup s mid piece lines go = elim go.1 [
-  | inl memory ↦ ap (λ (t : State). t.awaiting) memory.1
-  | inr done ↦ ap (λ (t : State). t.awaiting) done.1
-]
 
 -- ---- what threads do
 

@@ -1,4 +1,4 @@
-use Rattle.oilpan.proofs.Commands.{read_makes_none}
+use Rattle.oilpan.proofs.Commands.{read_lines, read_makes_none}
 use Rattle.oilpan.proofs.asking.read.Goals as goal
 
 pub ask-requires-clause-numbered : goal.ask-requires-clause-numbered

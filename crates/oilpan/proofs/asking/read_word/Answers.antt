@@ -1,3 +1,4 @@
+use Rattle.oilpan.proofs.Commands.{word_lines}
 use Rattle.oilpan.proofs.asking.read_word.Goals as goal
 
 pub ask-requires-clause-numbered : goal.ask-requires-clause-numbered

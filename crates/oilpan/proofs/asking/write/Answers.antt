@@ -1,4 +1,4 @@
-use Rattle.oilpan.proofs.Commands.{write_makes_none}
+use Rattle.oilpan.proofs.Commands.{write_lines, write_makes_none}
 use Rattle.oilpan.proofs.asking.write.Goals as goal
 
 pub ask-requires-clause-numbered : goal.ask-requires-clause-numbered
