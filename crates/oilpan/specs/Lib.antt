@@ -11,3 +11,6 @@ pub mod DeclaredTypes
 pub mod FaultErrors
 pub mod Named
 pub mod TypesErrors
+-- Words of the crate below that programs name too.
+pub use Rattle.heap_engine.specs.Objects
+pub use Rattle.heap_engine.specs.View

@@ -4,15 +4,16 @@ ghost use Rattle.std.specs.Prelude.{◌≡◌, ◌+◌, ◌-◌, ◌^◌, ◌≤
 ghost use Rattle.gc_graph.specs.Shapes.{IsShape};
 ghost use Rattle.gc_graph.specs.State.{IsLive, empty_state};
 ghost use Rattle.gc_graph.specs.Valid.{IsValid};
-ghost use Rattle.gc_graph.specs.Lawful.{IsEndLine};
 ghost use Rattle.callback_table.specs.Table.{callback_kinds};
 ghost use Rattle.heap_engine.specs.Objects.{HaveCallbacks};
 ghost use Rattle.oilpan.specs.declared.handles.Root.{Root};
+ghost use Rattle.oilpan.specs.Cycles.{AreTotals};
 ghost use Rattle.oilpan.specs.Handles.{Holds};
 ghost use Rattle.oilpan.specs.Rest.{IsAtRest, IsRegionAtRest};
 
 use crate::options::HeapOptions;
 use crate::sharing::Sharing;
+use crate::told::Totals;
 use callback_table::CallbackTable;
 use gc_graph::{Line, NoMemory, empty_is_valid, slots_name_the_live};
 use heap_engine::{Config, Gate, Heap};
@@ -100,8 +101,8 @@ impl<'a, G: Gate + Send + Sync + 'static> Oilpan<'a, G> {
 
     /// Ends the heap: markers that run are stopped and joined. The answer counts the objects that were
     /// not finalised, their words and their pages.
-    pub fn close<R: Threads + Wait>(self, rt: &R) -> Line
-        ensures { IsEndLine self.entry.heap.core.setup self.entry.heap.core.state result }
+    pub fn close<R: Threads + Wait>(self, rt: &R) -> Totals
+        ensures { AreTotals self.entry.heap.core.setup self.entry.heap.core.state result }
     {
         let Oilpan {
             mut heap,
@@ -110,6 +111,13 @@ impl<'a, G: Gate + Send + Sync + 'static> Oilpan<'a, G> {
             shared: _,
             likely: _,
         } = self;
-        heap.close(rt)
+        match heap.close(rt) {
+            Line::End { n, u, g } => Totals {
+                objects: n,
+                words: u,
+                pages: g,
+            },
+            _ => unreachable!(),
+        }
     }
 }

@@ -25,8 +25,10 @@
 //! at their beginning. A heap does 2^64 - 1 commands. A caller has it that some are left (`HasRoom`) from the
 //! clause `ordinal` of the call before, or asks `commands_left`.
 //!
-//! In `crates.txt` a program's line names `oilpan`, and `gc_graph` for the line that `close` answers. Its
-//! clauses need `Rattle.oilpan.specs.Handles.{HasRoom, Holds, Shares, Watches}`.
+//! In `crates.txt` a program's line names `oilpan`, and `anyhow` if its errors are to be one. Its
+//! clauses need `Rattle.oilpan.specs.Handles.{HasRoom, Holds, Shares, Watches}`, and for what `open` wants
+//! `Rattle.oilpan.specs.Objects.{HaveCallbacks}`. A clause may speak of all that a heap is known by, its `core`
+//! (`Rattle.oilpan.specs.View.{View}`).
 //!
 //! What is proved: each call does one command of `heap_engine`, and `collect` at most two; what it answers
 //! and what it changes is what `gc_graph` says of that command. A root that holds goes on to hold, through
@@ -65,10 +67,11 @@ mod types_errors;
 mod weak;
 mod words;
 
-pub use callback_table::{Callback, CallbackTable};
+pub use callback_table::{Action, ActionKind, Callback, CallbackTable};
 pub use errors::{
     FieldError, GetError, HandleError, MakeError, NotMarking, NotSweeping, ShareError, StartError,
 };
+pub use gc_graph::NoMemory;
 pub use handles::{Root, SharedRoot, WeakRoot};
 pub use heap::Oilpan;
 pub use heap_engine::{FreeGate, Gate};

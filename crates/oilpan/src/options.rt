@@ -1,5 +1,7 @@
 // How a heap is made.
 
+ghost use Rattle.std.specs.Prelude.{◌≡◌};
+
 /// How many pages a heap has, how many words a page, and how many markers run beside its owner.
 ///
 /// | field | values | default |
@@ -15,6 +17,8 @@ pub struct HeapOptions {
 }
 
 impl Default for HeapOptions {
+    ghost is_default = { λ o. o ≡ record { pages = 64; page_words = 16384; markers = 0 } };
+
     fn default() -> HeapOptions {
         HeapOptions {
             pages: 64,

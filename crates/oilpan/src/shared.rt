@@ -112,6 +112,8 @@ impl<'a, G: Gate + Send + Sync + 'static> Oilpan<'a, G> {
     pub fn release_shared(&mut self, shared: SharedRoot)
         requires shared { Shares self.old.heap.core.state self.old.shared shared }
         ensures core { self.new.heap.core ≡ self.old.heap.core }
+        ensures stays { (o : Root) →
+            Holds self.old.heap.core.state o → Holds self.new.heap.core.state o }
         ensures watches { (o : WeakRoot) →
             Watches self.old.heap.core.state self.old.watched o →
             Watches self.new.heap.core.state self.new.watched o }

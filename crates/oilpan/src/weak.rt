@@ -106,6 +106,8 @@ impl<'a, G: Gate + Send + Sync + 'static> Oilpan<'a, G> {
     pub fn release_weak(&mut self, weak: WeakRoot)
         requires watched { Watches self.old.heap.core.state self.old.watched weak }
         ensures core { self.new.heap.core ≡ self.old.heap.core }
+        ensures stays { (o : Root) →
+            Holds self.old.heap.core.state o → Holds self.new.heap.core.state o }
         ensures watches { (o : WeakRoot) →
             Watches self.old.heap.core.state self.old.watched o →
             ¬ (o.slot ≡ weak.slot) →

@@ -1,6 +1,6 @@
 -- What the calls of this program want of a heap.
 use Rattle.std.specs.Prelude.{◌≡◌, ℕ, ◌+◌, ◌≤◌, length}
-use Rattle.heap_engine.specs.View.{View}
+use Rattle.oilpan.specs.View.{View}
 
 -- the heap has the one type and room for so many commands
 abbrev pub IsReady : ℕ → View → Type 0

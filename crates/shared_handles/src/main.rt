@@ -12,12 +12,11 @@
 #![tactic(auto)]
 
 ghost use Rattle.std.specs.Prelude.{◌≡◌, length, IfOk};
-ghost use Rattle.heap_engine.specs.Objects.{HaveCallbacks};
+ghost use Rattle.oilpan.specs.Objects.{HaveCallbacks};
 
 mod story;
 
 use anyhow::Result;
-use gc_graph::Line;
 use oilpan::{CallbackTable, FreeGate, HeapOptions, Oilpan, TypeTable, Types};
 use std::alloc::Global;
 use std::sync::Arc;
@@ -42,10 +41,7 @@ fn main(rt: HostRuntime) -> Result<()> {
     };
     let mut heap = Oilpan::open(rt.alloc(), options, types, &callbacks, &gate)?;
     let told = tell(&mut heap, &rt);
-    let end = heap.close(&rt);
+    let left = heap.close(&rt);
     told?;
-    if let Line::End { n, .. } = end {
-        println!(rt; "{n} objects are left")?;
-    }
-    Ok(())
+    Ok(println!(rt; "{} objects are left", left.objects)?)
 }

@@ -1,6 +1,6 @@
 -- What the calls of this program want of a heap, and what they keep.
 use Rattle.std.specs.Prelude.{◌≡◌, ℕ, ◌+◌, ◌≤◌, length}
-use Rattle.heap_engine.specs.View.{View}
+use Rattle.oilpan.specs.View.{View}
 use Rattle.oilpan.specs.declared.handles.Root.{Root}
 use Rattle.oilpan.specs.Handles.{Holds}
 

@@ -12,13 +12,12 @@
 #![tactic(auto)]
 
 ghost use Rattle.std.specs.Prelude.{◌≡◌, length, IfOk};
-ghost use Rattle.heap_engine.specs.Objects.{HaveCallbacks};
+ghost use Rattle.oilpan.specs.Objects.{HaveCallbacks};
 
 mod cache;
 mod story;
 
 use anyhow::Result;
-use gc_graph::Line;
 use oilpan::{CallbackTable, FreeGate, HeapOptions, Oilpan, TypeTable, Types};
 use std::alloc::Global;
 use std::sync::Arc;
@@ -51,10 +50,7 @@ fn main(rt: HostRuntime) -> Result<()> {
     };
     let mut heap = Oilpan::open(rt.alloc(), options, types, &callbacks, &gate)?;
     let told = tell(&mut heap, rt);
-    let end = heap.close(&rt);
+    let left = heap.close(&rt);
     told?;
-    if let Line::End { n, .. } = end {
-        println!(rt; "{n} objects were not finalised")?;
-    }
-    Ok(())
+    Ok(println!(rt; "{} objects were not finalised", left.objects)?)
 }
