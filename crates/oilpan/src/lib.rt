@@ -25,6 +25,12 @@
 //! at their beginning. A heap does 2^64 - 1 commands. A caller has it that some are left (`HasRoom`) from the
 //! clause `ordinal` of the call before, or asks `commands_left`.
 //!
+//! An object that a collection condemns is gone for `upgrade` from then on, and is finalised, counted as such
+//! and told by `finalised`, when its page is swept. Its words besides the fields, `extra`, are plain.
+//! `CallbackTable::new` takes the callbacks in a `Vec`, none of them for types without prefinalizers;
+//! markers pass the gate, and `FreeGate`, in an `Arc`, holds nobody. A function that holds a root keeps each
+//! `Result` until the root is released, and uses `?` then.
+//!
 //! In `crates.txt` a program's line names `oilpan`, and `anyhow` if its errors are to be one. Its
 //! clauses need `Rattle.oilpan.specs.Handles.{HasRoom, Holds, Shares, Watches}`, and for what `open` wants
 //! `Rattle.oilpan.specs.Objects.{HaveCallbacks}`. A clause may speak of all that a heap is known by, its `core`
