@@ -18,7 +18,7 @@ ghost use Rattle.heap_cycle.specs.Region.{HasRegion};
 ghost use Rattle.heap_cycle.specs.Printed.{lines_with, TellsThoseThatRan};
 
 use crate::beginning::begin;
-use crate::crew::man;
+use crate::crew::start_crew;
 use crate::outcome::Outcome;
 use crate::parts::Parts;
 use crate::states;
@@ -64,7 +64,7 @@ pub fn start<R: Threads + Wait, G: Gate + Send + Sync + 'static>(
     let Ok(()) = begin(rt, parts, &mut outcome.finalised) else {
         return Line::Memory;
     };
-    man(rt, parts, lists, gate);
+    start_crew(rt, parts, lists, gate);
     Line::Started
 }
 
@@ -190,7 +190,7 @@ fn pause<R: Threads + Wait>(
     gc_graph::orders_keep_valid();
     let before = states::moment(parts);
     let cycle = &mut parts.cycle;
-    let result = parts.handles.finish(
+    let result = parts.handles.pause(
         rt,
         &mut parts.region,
         &mut parts.objects,

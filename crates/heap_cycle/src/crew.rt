@@ -13,7 +13,7 @@ use std::sync::Arc;
 use std::thread::Threads;
 
 /// Starts the heap's markers, where it has some.
-pub(crate) fn man<R: Threads, G: Gate + Send + Sync + 'static>(
+pub(crate) fn start_crew<R: Threads, G: Gate + Send + Sync + 'static>(
     rt: &R,
     parts: &mut Parts,
     lists: Option<CrewLists>,
@@ -33,7 +33,7 @@ pub(crate) fn man<R: Threads, G: Gate + Send + Sync + 'static>(
 }
 
 /// Stops the markers of a heap, where some run, and joins them.
-pub fn dismiss<R: Threads>(rt: &R, parts: &mut Parts)
+pub fn join_crew<R: Threads>(rt: &R, parts: &mut Parts)
     requires tied { AreTied parts.old }
     ensures stopped { parts.new.objects.grey.running ≡ [] }
     ensures lent { parts.new.objects.seat.lent ≡ 0 }
@@ -41,5 +41,5 @@ pub fn dismiss<R: Threads>(rt: &R, parts: &mut Parts)
     ensures setup { setup_of parts.new ≡ setup_of parts.old }
     ensures others { parts.new ≡ record parts.old { objects = parts.new.objects } }
 {
-    parts.objects.close(rt);
+    parts.objects.join_crew(rt);
 }

@@ -49,7 +49,7 @@ impl Cycle {
     }
 
     /// Sweeps the pages that are left, however many these are.
-    pub fn finish(&mut self, objects: &mut Objects, finalised: &mut Vec<u32>)
+    pub fn end_sweep(&mut self, objects: &mut Objects, finalised: &mut Vec<u32>)
         requires phase { self.old.phase ≡ Sweeping }
         requires pages { self.old.sweep.pages ≡ objects.old.shape.pages }
         requires rest { ObjectsAreAtRest objects.old }

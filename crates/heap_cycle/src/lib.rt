@@ -38,7 +38,7 @@ mod sweeps;
 mod taking;
 
 pub use collections::{collect, finish, start, step};
-pub use crew::dismiss;
+pub use crew::join_crew;
 pub use cycle::{Counts, Cycle};
 pub use heap_roots::{
     Content, Field, FreeGate, Gate, Handles, Objects, OwnedRegion, PairContent, Part, Pushed,

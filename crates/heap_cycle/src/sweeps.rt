@@ -118,7 +118,7 @@ pub fn end_sweep(parts: &mut Parts, finalised: &mut Vec<u32>)
             parts.objects.shape_is_valid();
             gc_graph::step_keeps_valid();
             parts.objects.dead_are_few();
-            parts.cycle.finish(&mut parts.objects, finalised);
+            parts.cycle.end_sweep(&mut parts.objects, finalised);
         }
     }
 }

@@ -238,7 +238,7 @@ impl Core {
         ensures closed { IsClosed self.old self.new }
     {
         if !self.closed {
-            heap_cycle::dismiss(rt, &mut self.parts);
+            heap_cycle::join_crew(rt, &mut self.parts);
         }
         self.parts.region.close(rt);
         self.closed = true;

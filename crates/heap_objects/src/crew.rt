@@ -94,7 +94,7 @@ impl Objects {
 
     /// Stops the heap's markers where they run, and joins them, so that no seat is lent any more. It is
     /// called before the heap is let go.
-    pub fn close<R: Threads>(&mut self, rt: &R)
+    pub fn join_crew<R: Threads>(&mut self, rt: &R)
         requires marks { GoesOnOrRests self.old }
         ensures stopped { self.new.grey.running ≡ [] }
         ensures lent { self.new.seat.lent ≡ 0 }
@@ -104,14 +104,14 @@ impl Objects {
         self.seat.bodies_lie_apart();
         self.space.lasts_while_objects_stay();
         if self.grey.crew.is_running() {
-            gather(rt, &self.space, &mut self.seat, &mut self.grey);
+            join_if_running(rt, &self.space, &mut self.seat, &mut self.grey);
         }
     }
 }
 
 /// What a pause begins with: markers that run are stopped and joined. It answers how many objects these
 /// traced.
-pub(crate) fn gather<R: Threads>(
+pub(crate) fn join_if_running<R: Threads>(
     rt: &R,
     space: &Space,
     seat: &mut MutatorSeat,
@@ -133,7 +133,7 @@ pub(crate) fn gather<R: Threads>(
 {
     seat.bodies_lie_apart();
     if grey.crew.is_running() {
-        join_crew(rt, space, seat, grey)
+        stop_and_join(rt, space, seat, grey)
     } else {
         0
     }
@@ -141,7 +141,7 @@ pub(crate) fn gather<R: Threads>(
 
 /// Stops the markers and joins them: what they know the owner knows then, and what they left on their
 /// lists and noted is left to it. It answers how many objects they traced.
-fn join_crew<R: Threads>(rt: &R, space: &Space, seat: &mut MutatorSeat, grey: &mut Grey) -> u32
+fn stop_and_join<R: Threads>(rt: &R, space: &Space, seat: &mut MutatorSeat, grey: &mut Grey) -> u32
     requires heap { IsSeatOf space.now seat.old }
     requires running { 0 < length grey.old.crew.running }
     requires whole { IsCrew grey.old.crew }

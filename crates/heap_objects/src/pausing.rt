@@ -23,7 +23,7 @@ ghost use Rattle.heap_objects.specs.Marks.{ObjectsAreAtRest, HasMarking, NameRoo
 ghost use Rattle.heap_objects.specs.Objects.{setup_of_objects, refused_of};
 ghost use Rattle.heap_objects.specs.Refused.{IsToldTruly};
 
-use crate::crew::gather;
+use crate::crew::join_if_running;
 use crate::marking::{clear, refused};
 use crate::objects::Objects;
 use crate::steps::step;
@@ -123,7 +123,7 @@ impl Objects {
     /// what is weak and names a condemned object becomes null, and the prefinalizers of these run.
     /// Markers that run are stopped and joined first. Then it waits for its turn at the region.
     #[inline(never)]
-    pub fn finish<'a, R: Threads + Wait>(
+    pub fn pause<'a, R: Threads + Wait>(
         &mut self,
         rt: &R,
         strong: &'a Slots,
@@ -175,7 +175,7 @@ impl Objects {
         self.space.lasts_while_objects_stay();
         // The count of objects fits its type, and so does that of traced ones.
         let _objects = self.space.objects();
-        let crew = gather(rt, &self.space, &mut self.seat, &mut self.grey);
+        let crew = join_if_running(rt, &self.space, &mut self.seat, &mut self.grey);
         let result = pause(
             rt,
             Parts {

@@ -28,7 +28,7 @@ use std::sync::Wait;
 use std::thread::Threads;
 
 impl OwnedRegion {
-    /// Finishes marking, with the pause of `Objects::finish`, which makes its entry behind what
+    /// Finishes marking, with the pause of `Objects::pause`, which makes its entry behind what
     /// threads have done until then. All of it is taken.
     pub fn pause<'a, R: Threads + Wait>(
         &mut self,
@@ -81,7 +81,7 @@ impl OwnedRegion {
         ensures setup { setup_of_objects objects.new ≡ setup_of_objects objects.old }
     {
         self.pass.is_legal();
-        let finished = objects.finish(
+        let finished = objects.pause(
             rt,
             strong,
             weak,

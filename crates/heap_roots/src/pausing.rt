@@ -70,7 +70,7 @@ impl Handles {
     /// unless the region's slots or the stack's words reach it, what is weak and names a condemned
     /// object becomes null, and the prefinalizers of these run. Markers that run are stopped and joined
     /// first.
-    pub fn finish<R: Threads + Wait>(
+    pub fn pause<R: Threads + Wait>(
         &mut self,
         rt: &R,
         region: &mut OwnedRegion,

@@ -16,11 +16,11 @@ use Rattle.heap_cycle.proofs.PauseSteps.{has_paused}
 use Rattle.heap_cycle.proofs.RegisteredNodes.{registered_placed}
 use Rattle.heap_cycle.proofs.collections.pause.Goals as goal
 
-pub finish-result-requires-clause-kept : goal.finish-result-requires-clause-kept
-finish-result-requires-clause-kept g c p there = slots_kept c.args.parts.now p c.requires.ready c.requires.marking there
+pub pause-result-requires-clause-kept : goal.pause-result-requires-clause-kept
+pause-result-requires-clause-kept g c p there = slots_kept c.args.parts.now p c.requires.ready c.requires.marking there
 
-pub finish-result-requires-clause-registered : goal.finish-result-requires-clause-registered
-finish-result-requires-clause-registered g c =
+pub pause-result-requires-clause-registered : goal.pause-result-requires-clause-registered
+pause-result-requires-clause-registered g c =
     subst (λ (k : CycleView). All (IsRegistered c.args.parts.now.objects.nodes (length c.args.parts.now.objects.callbacks)) k.registered) (sym c.cycle.view_is)
     (registered_placed c.args.parts.now c.requires.ready)
 
@@ -31,39 +31,39 @@ returns g c = record {
       let after : CycleView = record {
         phase = Sweeping;
         sweep = c.begin.new.self;
-        registered = c.finish-result.new.registry.entries;
-        ran = c.finish-result.new.registry.ran;
+        registered = c.pause-result.new.registry.entries;
+        ran = c.pause-result.new.registry.ran;
         rest = c.paused.result.value;
       } in
-      let least : _ = slot_targets s.handles.slots ++ strong_region_targets (slots_of (found_of c.finish-result.new.region))
+      let least : _ = slot_targets s.handles.slots ++ strong_region_targets (slots_of (found_of c.pause-result.new.region))
       ++ hits_in (is_precise c.args.want) s.objects.nodes s.handles.stack.addresses in
-      let most : _ = members s.cycle.rest.may ++ strong_region_targets (slots_of (found_of c.finish-result.new.region))
+      let most : _ = members s.cycle.rest.may ++ strong_region_targets (slots_of (found_of c.pause-result.new.region))
       ++ hits_in (is_precise c.args.want) s.objects.nodes s.handles.stack.addresses in
       let keeps : RegistryView → Type 0 = λ registry.
-      IsPaused s.objects.callbacks least most s.objects.nodes c.finish-result.new.objects.nodes registry c.finish-result.new.registry in
-      let is : Pauses markers c.args.want s c.finish-result.new.objects c.finish-result.new.self after c.finish-result.new.region c.finish-result.result = record {
+      IsPaused s.objects.callbacks least most s.objects.nodes c.pause-result.new.objects.nodes registry c.pause-result.new.registry in
+      let is : Pauses markers c.args.want s c.pause-result.new.objects c.pause-result.new.self after c.pause-result.new.region c.pause-result.result = record {
         ready = c.requires.ready;
         marking = c.requires.marking;
         region = c.requires.region;
-        entry = c.finish-result.ensures.region;
+        entry = c.pause-result.ensures.region;
         allowed = c.requires.allowed;
-        setup = c.finish-result.ensures.setup;
-        paused = subst keeps (ap registry_of c.cycle.view_is) (c.finish-result.ensures.paused s.cycle.rest.may (marking_of s c.requires.ready c.requires.marking));
-        sizes = c.finish-result.ensures.sizes;
-        handles_left = c.finish-result.ensures.handles;
-        rests = c.finish-result.ensures.rest;
-        judged_marks = c.finish-result.ensures.judged;
+        setup = c.pause-result.ensures.setup;
+        paused = subst keeps (ap registry_of c.cycle.view_is) (c.pause-result.ensures.paused s.cycle.rest.may (marking_of s c.requires.ready c.requires.marking));
+        sizes = c.pause-result.ensures.sizes;
+        handles_left = c.pause-result.ensures.handles;
+        rests = c.pause-result.ensures.rest;
+        judged_marks = c.pause-result.ensures.judged;
         phase = refl;
         sweep = c.begin.ensures ∙ ap (λ (k : CycleView). record k.sweep { cursor = 0 }) c.cycle.view_is;
-        rest = c.paused.ensures ∙ ap (λ (k : CycleView). paused_from (with_taken c.moment-before.result.value c.finish-result.new.region.taken k.rest)) c.cycle.view_is
-            ∙ ap (λ (m : Moment). paused_from (with_taken m c.finish-result.new.region.taken s.cycle.rest)) c.moment-before.ensures;
-        kept_is = c.finish-result.ensures.kept;
-        dead_is = c.finish-result.ensures.dead;
-        traced_is = c.finish-result.ensures.traced;
-        crew_is = λ few. c.finish-result.ensures.crew (none few);
-        kept_traced = c.finish-result.ensures.kept_traced;
-        walked = c.finish-result.ensures.walked;
+        rest = c.paused.ensures ∙ ap (λ (k : CycleView). paused_from (with_taken c.moment-before.result.value c.pause-result.new.region.taken k.rest)) c.cycle.view_is
+            ∙ ap (λ (m : Moment). paused_from (with_taken m c.pause-result.new.region.taken s.cycle.rest)) c.moment-before.ensures;
+        kept_is = c.pause-result.ensures.kept;
+        dead_is = c.pause-result.ensures.dead;
+        traced_is = c.pause-result.ensures.traced;
+        crew_is = λ few. c.pause-result.ensures.crew (none few);
+        kept_traced = c.pause-result.ensures.kept_traced;
+        walked = c.pause-result.ensures.walked;
       } in
-      has_paused markers c.args.want s c.finish-result.new.objects c.finish-result.new.self after c.finish-result.new.region c.finish-result.result is
+      has_paused markers c.args.want s c.pause-result.new.objects c.pause-result.new.self after c.pause-result.new.region c.pause-result.result is
       c.reach_is_least.ensures c.orders_keep_valid.ensures);
 }

@@ -10,7 +10,7 @@ use Rattle.heap_engine.proofs.heap_core.Core.stop.Goals.{then-not-self, else-not
 -- markers that are joined leave the region
 region_stays : (g : given.Over) (c : goal.After-self-1 g) → c.if-not-self.self-inside.parts.region ≡ c.self.inside.parts.region
 region_stays g c = elim c.if-not-self.branch [
-  | then-not-self w ↦ ap (λ (h : Inside). h.parts.region) w.self-inside-is ∙ ap (λ (p : Parts). p.region) w.dismiss.ensures.others
+  | then-not-self w ↦ ap (λ (h : Inside). h.parts.region) w.self-inside-is ∙ ap (λ (p : Parts). p.region) w.join_crew.ensures.others
   | else-not-self w ↦ ap (λ (h : Inside). h.parts.region) w.self-inside-is
 ]
 

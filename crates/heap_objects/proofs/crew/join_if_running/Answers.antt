@@ -7,7 +7,7 @@ use Rattle.marker_crew.specs.Notes.{NotesState}
 use Rattle.marker_crew.specs.Crews.{Marker}
 use Rattle.heap_objects.specs.Marking.{GreyView, grey_of}
 use Rattle.heap_objects.proofs.AloneJoined.{ready_alone, groups_alone, told_alone}
-use Rattle.heap_objects.proofs.crew.gather.Goals as goal
+use Rattle.heap_objects.proofs.crew.join_if_running.Goals as goal
 
 -- no marker runs
 none_of : (running : List Marker) → not (eqb (length running) 0) ≡ false → running ≡ []

@@ -1,6 +1,6 @@
 use Rattle.std.proofs.Common.{ap, ◌∙◌}
 use Rattle.heap_roots.specs.Handles.{HandlesView}
-use Rattle.heap_roots.proofs.handles.Handles.finish.Goals as goal
+use Rattle.heap_roots.proofs.handles.Handles.pause.Goals as goal
 
 pub pause-result-requires-clause-slots : goal.pause-result-requires-clause-slots
 pause-result-requires-clause-slots g c = (

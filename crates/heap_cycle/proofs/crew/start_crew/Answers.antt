@@ -1,5 +1,5 @@
 use Rattle.heap_cycle.proofs.CrewSteps.{has_manned}
-use Rattle.heap_cycle.proofs.crew.man.Goals as goal
+use Rattle.heap_cycle.proofs.crew.start_crew.Goals as goal
 
 pub returns-in-Some : goal.returns-in-Some
 returns-in-Some g c = record {

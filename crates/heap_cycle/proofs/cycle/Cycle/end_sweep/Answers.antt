@@ -5,7 +5,7 @@ use Rattle.heap_cycle.specs.Changes.{swept_to, SweepsParts}
 use Rattle.heap_roots.specs.Objects.{ObjectsView}
 use Rattle.heap_cycle.specs.Views.{CycleView}
 use Rattle.heap_cycle.proofs.SweptObjects.{over_at, parts_swept}
-use Rattle.heap_cycle.proofs.cycle.Cycle.finish.Goals as goal
+use Rattle.heap_cycle.proofs.cycle.Cycle.end_sweep.Goals as goal
 
 pub returns-clause-swept : goal.returns-clause-swept
 returns-clause-swept c =

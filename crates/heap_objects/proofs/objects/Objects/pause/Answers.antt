@@ -34,7 +34,7 @@ use Rattle.heap_objects.proofs.Refilled.{refilled, no_shares, unrefused_of, unra
 use Rattle.heap_objects.proofs.ToldSums.{told_groups, told_shifted}
 use Rattle.heap_objects.proofs.ToldTruly.{told_truly}
 use Rattle.heap_objects.proofs.Unlooked.{way_is}
-use Rattle.heap_objects.proofs.objects.Objects.finish.Goals as goal
+use Rattle.heap_objects.proofs.objects.Objects.pause.Goals as goal
 
 -- what may be kept lies in the set
 may_joined : (nodes : List Node) (v w : SeatView) (may : List Bool) → IsSameHeap v w → IsMayOf nodes (unlooked v) may → IsMayWithin nodes w may
@@ -51,47 +51,47 @@ joined_held nodes v w same held = record {
   dead = λ n there. ap (λ l. holds l (place_of nodes n)) same.dead ∙ held.dead n there;
 }
 
-pub gather-crew-requires-clause-way : goal.gather-crew-requires-clause-way
-gather-crew-requires-clause-way g c =
+pub join_if_running-crew-requires-clause-way : goal.join_if_running-crew-requires-clause-way
+join_if_running-crew-requires-clause-way g c =
     let marks = rw (← c.self.view_is) at c.requires.marks in
     way_is c.self.inside.seat c.self.inside.grey.marking (grey_of c.self.inside.grey).notes marks.1.under_way
 
-pub gather-crew-requires-clause-crew : goal.gather-crew-requires-clause-crew
-gather-crew-requires-clause-crew g c =
+pub join_if_running-crew-requires-clause-crew : goal.join_if_running-crew-requires-clause-crew
+join_if_running-crew-requires-clause-crew g c =
     let marks = rw (← c.self.view_is) at c.requires.marks in
     crew_is c.self.inside.seat (grey_of c.self.inside.grey) marks.1.crew
 
-pub gather-crew-requires-clause-differ : goal.gather-crew-requires-clause-differ
-gather-crew-requires-clause-differ g c = places_differ c.self.inside.nodes.value c.self.inside.seat c.bodies_lie_apart.ensures c.self.invariant.held.bodies
+pub join_if_running-crew-requires-clause-differ : goal.join_if_running-crew-requires-clause-differ
+join_if_running-crew-requires-clause-differ g c = places_differ c.self.inside.nodes.value c.self.inside.seat c.bodies_lie_apart.ensures c.self.invariant.held.bodies
 
 pub overflow_add-self-inside : goal.overflow_add-self-inside
 overflow_add-self-inside g c =
     let v : SeatView = c.self.inside.seat in
-    let w : SeatView = c.gather-crew.new.seat in
+    let w : SeatView = c.join_if_running-crew.new.seat in
     let marks = rw (← c.self.view_is) at c.requires.marks in
-    let joined = c.gather-crew.ensures.joined in
+    let joined = c.join_if_running-crew.ensures.joined in
     let before : traced_count v ≡ c.self.inside.grey.traced = marks.1.counted in
     omega (arith, joined.counted, before, joined.traced, traced_few v w c.objects-objects.result joined.same.bodies (c.objects-objects.ensures v c.self.invariant.laid), c.objects-objects.type_inv)
 
 pub pause-result-requires-clause-strong : goal.pause-result-requires-clause-strong
 pause-result-requires-clause-strong g c =
     let nodes : List Node = c.self.inside.nodes.value in
-    let w : SeatView = c.gather-crew.new.seat in
-    let held = joined_held nodes c.self.inside.seat w c.gather-crew.ensures.joined.same c.self.invariant.held in
+    let w : SeatView = c.join_if_running-crew.new.seat in
+    let held = joined_held nodes c.self.inside.seat w c.join_if_running-crew.ensures.joined.same c.self.invariant.held in
     let named = rw (← c.self.view_is) at c.requires.slots in
     subst (λ l. All (λ slot. ForSome slot (IsPlace w.bodies)) l) (sym named.1.places_are) (named_places nodes w named.0 held.bodies (slots_live nodes named.0 named.1.live))
 
 pub pause-result-requires-clause-weak : goal.pause-result-requires-clause-weak
 pause-result-requires-clause-weak g c =
     let nodes : List Node = c.self.inside.nodes.value in
-    let w : SeatView = c.gather-crew.new.seat in
-    let held = joined_held nodes c.self.inside.seat w c.gather-crew.ensures.joined.same c.self.invariant.held in
+    let w : SeatView = c.join_if_running-crew.new.seat in
+    let held = joined_held nodes c.self.inside.seat w c.join_if_running-crew.ensures.joined.same c.self.invariant.held in
     let named = rw (← c.self.view_is) at c.requires.weak in
     subst (λ l. All (IsPlace w.bodies) (taken l)) (sym named.1.places_are) (weak_are_places nodes w named.0 held.bodies (slots_live nodes named.0 named.1.live))
 
 pub pause-result-requires-clause-may : goal.pause-result-requires-clause-may
 pause-result-requires-clause-may g c p there =
-    ap (λ l. holds l p) c.gather-crew.ensures.joined.same.may ∙ (rw (← c.self.view_is) at c.requires.kept) p there
+    ap (λ l. holds l p) c.join_if_running-crew.ensures.joined.same.may ∙ (rw (← c.self.view_is) at c.requires.kept) p there
 
 pub pause-result-requires-clause-few : goal.pause-result-requires-clause-few
 pause-result-requires-clause-few g c = omega (arith, c.self.invariant.numbers_are, c.self.ranges)
@@ -99,41 +99,41 @@ pause-result-requires-clause-few g c = omega (arith, c.self.invariant.numbers_ar
 pub pause-result-requires-clause-traced : goal.pause-result-requires-clause-traced
 pause-result-requires-clause-traced g c =
     let marks = rw (← c.self.view_is) at c.requires.marks in
-    let joined = c.gather-crew.ensures.joined in
+    let joined = c.join_if_running-crew.ensures.joined in
     let before : traced_count c.self.inside.seat ≡ c.self.inside.grey.traced = marks.1.counted in
     omega (arith, joined.counted, before, joined.traced)
 
 pub clear-requires-clause-unshared : goal.clear-requires-clause-unshared
 clear-requires-clause-unshared g c none =
-    let joined = c.gather-crew.ensures.joined in
+    let joined = c.join_if_running-crew.ensures.joined in
     no_shares c.pause-result.new.parts.1.1.0.list.shares (c.pause-result.ensures.shares ∙ ap (λ (l : List ShareState). length l) (joined.unshared (sym joined.markers ∙ none)))
 
 pub clear-requires-clause-home : goal.clear-requires-clause-home
-clear-requires-clause-home g c = c.gather-crew.ensures.joined.home
+clear-requires-clause-home g c = c.join_if_running-crew.ensures.joined.home
 
 pub clear-requires-clause-groups : goal.clear-requires-clause-groups
 clear-requires-clause-groups g c =
-    let before : List NotesState = c.gather-crew.new.grey.crew.notes in
+    let before : List NotesState = c.join_if_running-crew.new.grey.crew.notes in
     let left : List NotesState = c.pause-result.new.notes in
     let same : length left ≡ length before = c.pause-result.ensures.groups ∙ ap (λ (l : List NotesState). length l) c.notes.ensures.value in
-    let joined = c.gather-crew.ensures.joined in
+    let joined = c.join_if_running-crew.ensures.joined in
     omega (arith, ap (λ (l : List NotesState). length l) (refilled before left same), same, joined.groups, joined.markers)
 
 pub returns-clause-setup : goal.returns-clause-setup
 returns-clause-setup g c =
     rw (← c.self.view_is)
     (ap (λ n. record { shape = c.self.inside.space.shape; markers = n; types = arc_value c.self.inside.types; callbacks = c.self.inside.kinds.value })
-    (c.clear.ensures.markers ∙ c.gather-crew.ensures.joined.markers))
+    (c.clear.ensures.markers ∙ c.join_if_running-crew.ensures.joined.markers))
 
 pub returns-clause-walked : goal.returns-clause-walked
 returns-clause-walked g c =
-    let grey : Grey = c.gather-crew.new.grey in
+    let grey : Grey = c.join_if_running-crew.new.grey in
     let before : List NotesState = grey.crew.notes in
     let after : Marking = c.pause-result.new.parts.1.1.0 in
     let left : List NotesState = c.pause-result.new.notes in
     let walked : Bool = c.pause-result.result.walked in
     let since : RefusedCounts = c.self.inside.grey.since.value in
-    let joined = c.gather-crew.ensures.joined in
+    let joined = c.join_if_running-crew.ensures.joined in
     let same : length left ≡ length before = c.pause-result.ensures.groups ∙ ap (λ (l : List NotesState). length l) c.notes.ensures.value in
     let pushes : TellsRefused (record { told = false; count = since.pushes }) (record { told = after.overflow; count = grey.earlier.value + after.list.refused }) =
     told_then (record { told = false; count = since.pushes }) (record { told = grey.marking.overflow; count = grey.earlier.value + grey.marking.list.refused })
@@ -157,7 +157,7 @@ invariant_of-self g c =
     let nodes : List Node = c.self.inside.nodes.value in
     let named = rw (← c.self.view_is) at c.requires.slots in
     let marks = rw (← c.self.view_is) at c.requires.marks in
-    let paused = c.pause-result.ensures.paused named.0 marks.0 named.1 (may_joined nodes c.self.inside.seat c.gather-crew.new.seat marks.0 c.gather-crew.ensures.joined.same marks.1.may_is) in
+    let paused = c.pause-result.ensures.paused named.0 marks.0 named.1 (may_joined nodes c.self.inside.seat c.join_if_running-crew.new.seat marks.0 c.join_if_running-crew.ensures.joined.same marks.1.may_is) in
     let rest = c.bodies_lie_apart-2.ensures.at_rest c.pause-result.ensures.ready.off in
     record {
       called = c.self.invariant.called;
@@ -178,14 +178,14 @@ returns-clause-paused g c =
     rw (← c.self.view_is) (λ slots may named marks.
     subst (λ ks. IsPaused ks (slot_targets slots ++ shared_roots c.pause-result.new.parts.1.1.1.1.1.0 ++ hits_in c.args.precise c.self.inside.nodes.value c.args.stack.now)
     (members may ++ shared_roots c.pause-result.new.parts.1.1.1.1.1.0 ++ hits_in c.args.precise c.self.inside.nodes.value c.args.stack.now) c.self.inside.nodes.value c.pause-result.new.parts.1.0.value c.args.registry.now c.pause-result.new.parts.1.1.1.1.0)
-    kinds (c.pause-result.ensures.paused slots may named (may_joined c.self.inside.nodes.value c.self.inside.seat c.gather-crew.new.seat may c.gather-crew.ensures.joined.same marks.may_is)))
+    kinds (c.pause-result.ensures.paused slots may named (may_joined c.self.inside.nodes.value c.self.inside.seat c.join_if_running-crew.new.seat may c.join_if_running-crew.ensures.joined.same marks.may_is)))
 
 pub returns-clause-sizes : goal.returns-clause-sizes
 returns-clause-sizes g c = λ n live.
     let nodes : List Node = c.self.inside.nodes.value in
     let named = rw (← c.self.view_is) at c.requires.slots in
     let marks = rw (← c.self.view_is) at c.requires.marks in
-    let paused = c.pause-result.ensures.paused named.0 marks.0 named.1 (may_joined nodes c.self.inside.seat c.gather-crew.new.seat marks.0 c.gather-crew.ensures.joined.same marks.1.may_is) in
+    let paused = c.pause-result.ensures.paused named.0 marks.0 named.1 (may_joined nodes c.self.inside.seat c.join_if_running-crew.new.seat marks.0 c.join_if_running-crew.ensures.joined.same marks.1.may_is) in
     rw (← c.self.view_is)
     (sizes_stay paused.kept nodes c.pause-result.new.parts.1.0.value c.self.inside.seat c.pause-result.new.parts.0 c.bodies_lie_apart.ensures c.self.invariant.held.bodies
-    c.pause-result.ensures.ready.held.bodies (c.pause-result.ensures.extents ∙ ap (λ (bs : List Body). extents_of_bodies bs) c.gather-crew.ensures.joined.same.bodies) paused.stayed n (rw (← c.self.view_is) at live))
+    c.pause-result.ensures.ready.held.bodies (c.pause-result.ensures.extents ∙ ap (λ (bs : List Body). extents_of_bodies bs) c.join_if_running-crew.ensures.joined.same.bodies) paused.stayed n (rw (← c.self.view_is) at live))

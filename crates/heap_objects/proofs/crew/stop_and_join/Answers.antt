@@ -18,7 +18,7 @@ use Rattle.heap_objects.specs.Crews.{IsJoined, TellsRisen}
 use Rattle.heap_objects.specs.Marking.{GreyView, grey_of}
 use Rattle.heap_objects.specs.Marks.{IsOut}
 use Rattle.heap_objects.proofs.CrewJoined.{has_joined}
-use Rattle.heap_objects.proofs.crew.join_crew.Goals as goal
+use Rattle.heap_objects.proofs.crew.stop_and_join.Goals as goal
 
 -- the stop word was set while seats are lent
 still_going : (v : SeatView) → 0 < v.lent → stopped v ≡ v
