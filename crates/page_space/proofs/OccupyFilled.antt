@@ -62,6 +62,27 @@ nulled_next old now first place order so_far =
     let more : place + 1 - first ≡ suc n = omega arith in
     ap (λ (v : SeatView). filled_with v place 0) so_far ∙ ap (λ p. filled_with (nulled old first n) p 0) (sym at) ∙ ap (nulled old first) (sym more)
 
+-- more words after those that were filled
+pub nulled_more : (old now : SeatView) (first place n : ℕ) → first ≤ place → now ≡ nulled old first (place - first)
+    → nulled now place n ≡ nulled old first (place + n - first)
+unfolding nulled
+nulled_more old now first place zero order so_far = so_far ∙ (let same : place - first ≡ place + 0 - first = omega arith in ap (nulled old first) same)
+nulled_more old now first place (suc n) order so_far =
+    let at : place + n ≡ first + (place + n - first) = omega arith in
+    let more : place + suc n - first ≡ suc (place + n - first) = omega arith in
+    ap (λ (v : SeatView). filled_with v (place + n) 0) (nulled_more old now first place n order so_far)
+    ∙ ap (λ p. filled_with (nulled old first (place + n - first)) p 0) at ∙ ap (nulled old first) (sym more)
+
+pub nulled_start : (v : SeatView) (first : ℕ) → v ≡ nulled v first 0
+unfolding nulled
+nulled_start v first = refl
+
+pub nulled_suc : (old now : SeatView) (first n : ℕ) → now ≡ nulled old first n → filled_with now (first + n) 0 ≡ nulled old first (n + 1)
+unfolding nulled
+nulled_suc old now first n so_far =
+    let more : n + 1 ≡ suc n = omega arith in
+    ap (λ (v : SeatView). filled_with v (first + n) 0) so_far ∙ ap (nulled old first) (sym more)
+
 pub nulled_none : (v : SeatView) (first : ℕ) → v ≡ nulled v first (first - first)
 unfolding nulled
 nulled_none v first = (let none : first - first ≡ 0 = omega arith in ap (nulled v first) (sym none))

@@ -32,6 +32,10 @@ unfoldable pub nulled : SeatView → ℕ → ℕ → SeatView
 nulled v a zero = v
 nulled v a (suc n) = filled_with (nulled v a n) (a + n) 0
 
+-- so many words of a new object are written in one turn
+abbrev pub turn_words : ℕ
+turn_words = 8
+
 -- the body joined the others, and words that were filled in it are no longer filled ones; marks and what was found traced are as
 -- before, and while marking goes on it may be kept
 pub record Occupies (old new : SeatView) (b : Body) : Type 0 where

@@ -8,11 +8,14 @@ ghost use Rattle.gap_bounds.specs.Bodies.{IsInBody, holds};
 ghost use Rattle.gap_bounds.specs.Seat.{IsUnnamed, OnlyLooked, retracted};
 ghost use Rattle.page_space.specs.Space.{IsSeatOf, IsSpaceOf, IsFreePlace, extents_of_bodies};
 ghost use Rattle.page_space.specs.Occupying.{IsRoom, HasNulls, Occupies, IsNewNumber, least_size};
-ghost use Rattle.page_space.specs.Occupying.{new_body, nulled};
+ghost use Rattle.page_space.specs.Occupying.{new_body, nulled, turn_words};
 
 use crate::space::{Space, bucket_of};
 use gap_bounds::{MutatorSeat, Words};
 use object_headers::{FIRST_FIELD, Header, SERIAL};
+
+/// So many words of a new object are written in one turn.
+const TURN_WORDS: u32 = 8;
 
 impl Space {
     /// Writes an object whose fields are null to a free place, and publishes it.
@@ -100,8 +103,40 @@ impl Space {
     }
 }
 
-/// Writes null to words from an address up to another that belong to no object.
+/// Writes null to words from an address up to another that belong to no object, `TURN_WORDS` of them at a
+/// time as long as there are so many.
 fn fill_nulls(words: &Words, seat: &mut MutatorSeat, first: u32, end: u32)
+    requires heap { seat.old.heap ≡ words.now }
+    requires order { first ≤ end }
+    requires end { end ≤ seat.old.count }
+    requires outside { (x : ℕ) → first ≤ x → x < end → IsInBody seat.old.bodies x → ⊥ }
+    ensures { seat.new ≡ nulled seat.old first (end - first) }
+{
+    let mut x = first;
+    while end - x >= TURN_WORDS {
+        fill_turn(words, seat, x);
+        x += TURN_WORDS;
+    }
+    fill_rest(words, seat, x, end);
+}
+
+/// Writes null to `TURN_WORDS` words from an address on. Their number is known where this is compiled, so
+/// that it is no loop there.
+#[inline(always)]
+fn fill_turn(words: &Words, seat: &mut MutatorSeat, first: u32)
+    requires heap { seat.old.heap ≡ words.now }
+    requires end { first + turn_words ≤ seat.old.count }
+    requires fits { first + turn_words < 2 ^ 32 }
+    requires outside { (x : ℕ) → first ≤ x → x < first + turn_words → IsInBody seat.old.bodies x → ⊥ }
+    ensures { seat.new ≡ nulled seat.old first turn_words }
+{
+    for i in 0..TURN_WORDS {
+        words.fill(seat, first + i, 0);
+    }
+}
+
+/// Writes null to the words that are left.
+fn fill_rest(words: &Words, seat: &mut MutatorSeat, first: u32, end: u32)
     requires heap { seat.old.heap ≡ words.now }
     requires order { first ≤ end }
     requires end { end ≤ seat.old.count }
