@@ -15,3 +15,4 @@ pub use Rattle.page_words.specs.Roles
 pub use Rattle.page_words.specs.Seat
 pub use Rattle.page_words.specs.SeatFacts
 pub use Rattle.page_words.specs.SeatLaws
+pub use Rattle.page_words.specs.StartBits

@@ -49,6 +49,6 @@ impl Bodywords for Space {
     }
 
     fn next_object(&self, seat: &mut MutatorSeat, from: u32) -> Option<u32> {
-        self.lowest_from(seat, from)
+        self.words.next_object(seat, from)
     }
 }

@@ -2,7 +2,7 @@
 
 ghost use Rattle.std.specs.Prelude.{◌≡◌, ◌+◌, ◌*◌, ◌/◌, ◌^◌, ◌<◌, [], ◌∷◌, ◌++◌};
 ghost use Rattle.std.specs.Prelude.{◌≤◌, ◌↔◌, IsTrue, IfSome, IfNone, Contains, All};
-ghost use Rattle.gc_graph.specs.Placement.{IsLowest, IsNowhere};
+ghost use Rattle.gc_graph.specs.Placement.{IsLowest};
 ghost use Rattle.gap_bounds.specs.Bodies.{IsPlace};
 ghost use Rattle.gap_bounds.specs.Body.{Body};
 ghost use Rattle.gap_bounds.specs.Seat.{OnlyLooked, IsPlaceFrom, block_words};
@@ -17,26 +17,6 @@ use gap_bounds::{BLOCK_WORDS, MutatorSeat, Reading};
 use object_headers::{Header, SERIAL};
 
 impl Space {
-    /// The lowest place that is not below an address.
-    pub(crate) fn lowest_from(&self, seat: &mut MutatorSeat, from: u32) -> Option<u32>
-        requires heap { IsSeatOf self.now seat.old }
-        ensures found { IfSome result (IsLowest (IsPlaceFrom seat.old.bodies from)) }
-        ensures none { IfNone result (IsNowhere (IsPlaceFrom seat.old.bodies from)) }
-        ensures view { seat.new ≡ seat.old }
-    {
-        seat.bodies_lie_apart();
-        self.shape_is_valid();
-        let count = self.words.count();
-        let mut at = from;
-        while at < count {
-            if let Some(place) = self.start_in_block(seat, at) {
-                return Some(place);
-            }
-            at = at / BLOCK_WORDS * BLOCK_WORDS + BLOCK_WORDS;
-        }
-        None
-    }
-
     /// The lowest place from an address up to, and without, `end`, or `end`. It looks at a
     /// word of start bits at a time.
     pub fn start_from(&self, seat: &mut MutatorSeat, from: u32, end: u32) -> u32
@@ -70,14 +50,8 @@ impl Space {
         ensures none { IfNone result (HasNoStart seat.old.bodies at (block_end at)) }
         ensures view { seat.new ≡ seat.old }
     {
-        seat.bodies_lie_apart();
         self.shape_is_valid();
-        let starts = self.words.count() + at / BLOCK_WORDS;
-        let bits = self.words.load::<Reading>(seat, starts) >> (at % BLOCK_WORDS);
-        if bits == 0 {
-            return None;
-        }
-        Some(at + bits.trailing_zeros())
+        self.words.start_in_block(seat, at)
     }
 
     /// The highest place in the blocks from `first` up to, and without, `end`.

@@ -10,6 +10,7 @@ pub mod BodyPlaces
 pub mod PlaceTests
 pub mod WrittenBodies
 pub mod Looking
+pub mod StartBits
 -- Words of the crates below that the crates above name too.
 pub use Rattle.marker_core.specs.Bodies as MachineBodies
 pub use Rattle.marker_core.specs.Closed

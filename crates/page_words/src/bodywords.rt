@@ -20,6 +20,7 @@ ghost use Rattle.page_words.specs.Seat.{MaySetStop, ended, stop_set, IsPlaceFrom
 
 use crate::mutator::MutatorSeat;
 use crate::reasons::Reason;
+use crate::words::Words;
 
 /// The mutator's calls on a heap's words, each of which is one step, and a way from object to object.
 /// Each call says what the call of `Words` with its name says.
@@ -110,4 +111,52 @@ pub trait Bodywords {
         ensures found { IfSome result (IsLowest (IsPlaceFrom seat.old.bodies from)) }
         ensures none { IfNone result (IsNowhere (IsPlaceFrom seat.old.bodies from)) }
         ensures view { seat.new ≡ seat.old };
+}
+
+impl Bodywords for Words {
+    ghost heap = { λ w. w };
+
+    fn count(&self) -> u32 {
+        self.count()
+    }
+
+    fn load<W: Reason>(&self, seat: &mut MutatorSeat, a: u32) -> u64 {
+        self.load::<W>(seat, a)
+    }
+
+    fn fill(&self, seat: &mut MutatorSeat, a: u32, w: u64) {
+        self.fill(seat, a, w);
+    }
+
+    fn store(&self, seat: &mut MutatorSeat, a: u32, w: u64) {
+        self.store(seat, a, w);
+    }
+
+    fn publish(&self, seat: &mut MutatorSeat, a: u32) {
+        self.publish(seat, a);
+    }
+
+    fn retract(&self, seat: &mut MutatorSeat, a: u32) {
+        self.retract(seat, a);
+    }
+
+    fn mark(&self, seat: &mut MutatorSeat, a: u32) -> bool {
+        self.mark(seat, a)
+    }
+
+    fn claim(&self, seat: &mut MutatorSeat, a: u32, header: u64) -> bool {
+        self.claim(seat, a, header)
+    }
+
+    fn unmark(&self, seat: &mut MutatorSeat, a: u32) {
+        self.unmark(seat, a);
+    }
+
+    fn set_stop(&self, seat: &mut MutatorSeat, on: bool) {
+        self.set_stop(seat, on);
+    }
+
+    fn next_object(&self, seat: &mut MutatorSeat, from: u32) -> Option<u32> {
+        self.lowest_from(seat, from)
+    }
 }

@@ -36,6 +36,7 @@ mod markers;
 mod marking;
 mod mutator;
 mod reasons;
+mod starts;
 mod views;
 mod words;
 

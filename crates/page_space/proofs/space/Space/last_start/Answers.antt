@@ -4,7 +4,8 @@ use Rattle.std.proofs.lemmas.Bool.{cases_lt}
 use Rattle.gap_bounds.specs.BodyPlaces.{no_place_beyond}
 use Rattle.gap_bounds.specs.Seat.{Heap, SeatView, IsView, TellsWordAt}
 use Rattle.page_space.specs.Pages.{word_count}
-use Rattle.page_space.proofs.StartBits.{IsBitsAt, IsLastPlace, no_bits, highest_bit}
+use Rattle.gap_bounds.specs.StartBits.{IsBitsAt, no_bits}
+use Rattle.page_space.proofs.StartBits.{IsLastPlace, highest_bit}
 use Rattle.page_space.proofs.space.Space.last_start.Goals as goal
 use Rattle.page_space.proofs.space.Space.last_start.Goals.{After-load-bits}
 
