@@ -14,7 +14,7 @@ ghost use Rattle.atomic_pause.specs.Marking.{IsMarkedIn, MarksReachable, marked_
 
 use ephemerons::{Pairs, fixpoint};
 use mark_worklist::Marking;
-use page_words::MutatorSeat;
+use page_words::{MutatorSeat, Words};
 use type_table::TypeTable;
 use weak_clearing::Space;
 
@@ -50,9 +50,10 @@ pub fn close(
     seat.bodies_lie_apart();
     // What was refused a place on the list, or a note, can be found by a walk alone.
     let walk = is_refused(marking, notes);
-    let traced = fixpoint(space, types, seat, marking, notes, walk);
+    let words = space.words();
+    let traced = fixpoint::<Words>(words, types, seat, marking, notes, walk);
     seat.bodies_lie_apart();
-    space.words().set_stop(seat, true);
+    words.set_stop(seat, true);
     marking.on = false;
     traced
 }

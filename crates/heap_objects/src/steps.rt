@@ -13,7 +13,7 @@ use crate::marking::{Grey, found_traced, tell_refused};
 use atomic_pause::trace_listed;
 use marker_crew::step_beside as trace_beside;
 use page_space::Space;
-use page_words::MutatorSeat;
+use page_words::{MutatorSeat, Words};
 use type_table::TypeTable;
 
 /// Traces marked objects, at most so many, alone or beside markers that run. Answers how many.
@@ -70,8 +70,8 @@ fn step_alone(
     ensures done { result < most → grey.new.marking.list.items ≡ [] }
 {
     seat.bodies_lie_apart();
-    trace_listed(
-        space,
+    trace_listed::<Words>(
+        space.words(),
         types,
         seat,
         &mut grey.marking,

@@ -22,7 +22,7 @@ set_stop-requires c =
     c.fixpoint-traced.ensures.over
     (walked_or_listed c.args.types.now c.args.seat.now c.args.marking.now c.args.notes.now c.is_refused-walk.result c.requires.ready
     c.is_refused-walk.ensures.whole) in (
-      kept.heap ∙ c.requires.heap ∙ sym (c.deref.ensures ∙ c.words.ensures),
+      kept.heap ∙ c.requires.heap ∙ sym (c.deref-2.ensures ∙ c.words-words.ensures),
       λ on alone. record {
         alone = c.fixpoint-traced.ensures.alone;
         traced = over.no_grey;
