@@ -2,6 +2,7 @@
 
 import math
 from collections import Counter, deque
+from random import Random
 from typing import Dict, List, NamedTuple
 
 PAGE_WORDS = 16_384
@@ -18,6 +19,14 @@ TABLE_SLOT = 255
 
 # For a side table: how many pairs a table has.
 TABLE_PAIRS = 31
+
+# For a drawn mix: its types, how many strong slots hold an object at any time, the slot that a line may leave
+# empty, how many weak slots it uses, and how many lines lie between two collections.
+DRAWN_TYPES = ["SSP", "SW", "SEP", "PP", "SSSSSSSS"]
+DRAWN_SLOTS = 16
+EMPTY_SLOT = 20
+DRAWN_WEAK_SLOTS = 8
+DRAWN_BETWEEN = 5_000
 
 
 class Load(NamedTuple):
@@ -494,8 +503,70 @@ def generated(seed, count):
     return Load(["SSWP", "SE"], lines + [COLLECTION, SWEEP], tells, 64)
 
 
+class Drawn:
+    """Lines that are drawn by chance, with a seed, of all kinds that work on fields and slots. Slots from 0 on hold
+    an object each, so that no line is refused, and what a field gives goes to a slot that no line begins at."""
+
+    def __init__(self, seed):
+        self.random, self.lines, self.held = Random(seed), [], []
+        for slot in range(DRAWN_SLOTS):
+            self.held.append(0)
+            self.make(slot)
+
+    def slot(self):
+        return self.random.randrange(DRAWN_SLOTS)
+
+    def make(self, slot):
+        """A new object of some type, in each third case with some extra words."""
+        self.held[slot] = self.random.randrange(len(DRAWN_TYPES))
+        extra = self.random.choice(["", "", f" {self.random.randrange(1, 30)}"])
+        self.lines.append(f"new {slot} {self.held[slot]}{extra}")
+
+    def field(self, kinds):
+        """A slot and a field of its object that has one of the kinds, if this draw finds one."""
+        slot = self.slot()
+        fields = [field for field, kind in enumerate(DRAWN_TYPES[self.held[slot]]) if kind in kinds]
+        return (slot, self.random.choice(fields)) if fields else None
+
+    def touch(self):
+        """A line that reads or writes a field."""
+        kinds = self.random.choice(["SW", "SW", "SW", "P", "E"])
+        found = self.field(kinds)
+        if found:
+            forms = {
+                "SW": ["set {} {} {}", "set {} {} {}", "set {} {} -", f"get {{}} {{}} {EMPTY_SLOT}"],
+                "P": ["put {} {} {}", "word {} {}"],
+                "E": ["pair {} {} {} {}", f"val {{}} {{}} {EMPTY_SLOT}", f"key {{}} {{}} {EMPTY_SLOT}"],
+            }
+            self.lines.append(self.random.choice(forms[kinds]).format(*found, self.slot(), self.slot()))
+
+    def hold(self):
+        """A line that copies, or that names an object weakly."""
+        slot, weak_slot = self.slot(), self.random.randrange(DRAWN_WEAK_SLOTS)
+        forms = [f"copy {slot} {EMPTY_SLOT}", f"weak {weak_slot} {slot}", f"read {weak_slot} {EMPTY_SLOT}"]
+        self.lines.append(self.random.choice(forms))
+
+
+def drawn(seed, count):
+    """So many turns of a drawn mix, with a collection and a sweep after each 5,000 lines and at the end."""
+    mix, collections = Drawn(seed), 0
+    for _ in range(count):
+        turn = mix.random.randrange(10)
+        if turn < 3:
+            mix.make(mix.slot())
+        elif turn < 8:
+            mix.touch()
+        else:
+            mix.hold()
+        if len(mix.lines) > DRAWN_BETWEEN * (collections + 1):
+            mix.lines += [COLLECTION, SWEEP]
+            collections += 1
+    tells = {"pause": collections + 1, "full": 0, "refused": 0, "memory": 0}
+    return Load(DRAWN_TYPES, mix.lines + [COLLECTION, SWEEP], tells, 16)
+
+
 def from_seed(seed, count):
-    """That script again, which the program makes itself, with a summary. Of its input nothing is read."""
+    """The script of `generated` again, which the program makes itself, with a summary. Of its input nothing is read."""
     load, entries = generated(seed, count), remainders(seed, count).count(2)
     summary = (
         f"summary commands {len(load.lines)} cycles {load.tells['pause']} objects {count + 1} "

@@ -410,6 +410,17 @@ class Bench:
         self.figures.tell("generated_instructions_per_line", twice / len(scripts[1].load.lines))
         self.figures.tell("generated_instructions_ratio", twice / some, RATIO_BAR)
 
+    def drawn(self):
+        """What a line costs of a mix that nobody has seen before: its seed is the time."""
+        seed = int(time.time())
+        scripts = [Script(self.folder, loads.drawn(seed, n * self.count)) for n in (1, 2)]
+        for script in scripts:
+            script.check()
+        some, twice = (script.instructions() for script in scripts)
+        print("drawn_seed", seed, flush=True)
+        self.figures.tell("drawn_instructions_per_line", twice / len(scripts[1].load.lines))
+        self.figures.tell("drawn_instructions_ratio", twice / some, RATIO_BAR)
+
     def generator(self):
         """What a turn costs of that script where the program makes it, and prints one line; twice the turns for
         the ratio."""
@@ -514,6 +525,7 @@ def main():
             bench.steps()
             bench.sets_while_marking()
             bench.generated()
+            bench.drawn()
             bench.generator()
             bench.weak_fields()
             bench.pairs()
