@@ -3,20 +3,14 @@ use Rattle.std.proofs.Common.{◌≡◌, ℕ, ◌+◌, ◌-◌, ◌<◌, ◌≤�
 use Rattle.std.proofs.lemmas.List.{drop_more, map_push}
 use Rattle.std.proofs.lemmas.Grind.{reverse_onto, drop-set_at}
 use Rattle.gc_graph.specs.declared.action.ActionKind.{ActionKind}
-use Rattle.gc_graph.specs.State.{Node, Registration, node_at}
-use Rattle.gc_graph.specs.Actions.{acted, action_of, shown_words}
-use Rattle.gc_graph.specs.Pause.{dies, run_order, kind_of_callback, prefinalised}
+use Rattle.gc_graph.specs.State.{Node, Registration}
+use Rattle.gc_graph.specs.Pause.{dies, run_order, prefinalised}
 use Rattle.callback_table.specs.declared.registry.Registered.{Registered}
 use Rattle.callback_table.specs.Registry.{registration_of, registrations_of, pair_of, pairs_run, entries_left, IsRegistered}
-use Rattle.callback_table.proofs.Looks.{LooksAlike, prefinalised_alike, dead_alike, stands_alike}
+use Rattle.callback_table.proofs.Looks.{LooksAlike, dead_alike, stands_alike}
+use Rattle.callback_table.proofs.Masking.{prefinalised_last, prefinalised_alike}
 
 -- ---- one more registration
-
-pub prefinalised_last : (kinds : List ActionKind) (rs : List Registration) (r : Registration) (nodes : List Node)
-    → prefinalised kinds (rs ++ r ∷ []) nodes ≡ prefinalised kinds (r ∷ []) (prefinalised kinds rs nodes)
-prefinalised_last kinds [] r nodes = refl
-prefinalised_last kinds (s ∷ rs) r nodes =
-    prefinalised_last kinds rs r (acted nodes s.node (action_of (kind_of_callback kinds s.callback) (shown_words (node_at nodes s.node))))
 
 order_more : (nodes : List Node) (r : Registration) (rs : List Registration) → dies nodes r ≡ true
     → run_order nodes (r ∷ rs) ≡ run_order nodes rs ++ r ∷ []

@@ -1,16 +1,15 @@
--- Prefinalizers leave each node at its place and in its life.
-use Rattle.std.proofs.Common.{◌≡◌, ℕ, ◌<◌, ◌≢◌, List, [], ◌∷◌, length, set, Option, Some, None, refl, sym, ap, ◌∙◌, subst, inl, inr, arith, length-set, get_or-set_other, get_or-set_same, nat_lt}
+-- Actions leave each node at its place and in its life.
+use Rattle.std.proofs.Common.{◌≡◌, ℕ, ◌<◌, ◌≢◌, List, length, set, Option, Some, None, refl, sym, ap, ◌∙◌, subst, inl, inr, arith, length-set, get_or-set_other, get_or-set_same, nat_lt}
 use Rattle.std.proofs.lemmas.Bool.{cases_lt, cond_both}
 use Rattle.std.proofs.lemmas.List.{set_past}
 use Rattle.gc_graph.specs.declared.action.Action.{Action}
 use Rattle.gc_graph.specs.declared.action.Action.TheVariants as A
-use Rattle.gc_graph.specs.declared.action.ActionKind.{ActionKind}
 use Rattle.gc_graph.specs.declared.kind.Kind.{Kind}
 use Rattle.gc_graph.specs.declared.kind.Kind.TheVariants.{Strong, Weak, Pair, Plain}
-use Rattle.gc_graph.specs.State.{Node, Registration, no_node, node_at, is_dead}
+use Rattle.gc_graph.specs.State.{Node, no_node, node_at, is_dead}
 use Rattle.gc_graph.specs.Fields.{kind_of_field, word_of_field, field_count}
-use Rattle.gc_graph.specs.Actions.{cleared_field, added_field, cleared_at, added_at, linked, change_linked, acted, action_of, shown_words}
-use Rattle.gc_graph.specs.Pause.{is_dead_at, kind_of_callback, prefinalised}
+use Rattle.gc_graph.specs.Actions.{cleared_field, added_field, cleared_at, added_at, linked, change_linked, acted}
+use Rattle.gc_graph.specs.Pause.{is_dead_at}
 use Rattle.callback_table.specs.Bodies.{StandsAt}
 
 -- the nodes stand where they stood, and live or are dead as before
@@ -94,20 +93,12 @@ change_alike : (nodes : List Node) (target : Option ℕ) (change : Node → Node
 change_alike nodes None change alike = alike_same nodes
 change_alike nodes (Some n) change alike = set_alike nodes n (change (node_at nodes n)) (alike (node_at nodes n))
 
-acted_alike : (nodes : List Node) (dying : ℕ) (action : Action) → LooksAlike nodes (acted nodes dying action)
+pub acted_alike : (nodes : List Node) (dying : ℕ) (action : Action) → LooksAlike nodes (acted nodes dying action)
 acted_alike nodes dying A.Nothing = alike_same nodes
 acted_alike nodes dying (A.Clear link field) =
     change_alike nodes (linked (node_at nodes dying) link) (λ node. cleared_at node field) (λ node. cleared_at_alike node field)
 acted_alike nodes dying (A.Add link field amount) =
     change_alike nodes (linked (node_at nodes dying) link) (λ node. added_at node field amount) (λ node. added_at_alike node field amount)
-
-pub prefinalised_alike : (kinds : List ActionKind) (registrations : List Registration) (nodes : List Node)
-    → LooksAlike nodes (prefinalised kinds registrations nodes)
-prefinalised_alike kinds [] nodes = alike_same nodes
-prefinalised_alike kinds (r ∷ more) nodes =
-    let after : List Node = acted nodes r.node (action_of (kind_of_callback kinds r.callback) (shown_words (node_at nodes r.node))) in
-    alike_on nodes after (prefinalised kinds more after)
-    (acted_alike nodes r.node (action_of (kind_of_callback kinds r.callback) (shown_words (node_at nodes r.node)))) (prefinalised_alike kinds more after)
 
 -- ---- what follows
 

@@ -1,4 +1,4 @@
-// What running prefinalizers asks of a heap.
+// What running callbacks asks of a heap.
 
 ghost use Rattle.std.specs.Prelude.{◌≡◌, ℕ, ◌≤◌, List, take, length};
 ghost use Rattle.gc_graph.specs.State.{Node, node_at};
@@ -7,7 +7,7 @@ ghost use Rattle.callback_table.specs.Bodies.{StandsAt, IsNodePlace, TellsDead};
 
 use gc_graph::Action;
 
-/// The objects of a heap while prefinalizers run. A place is the address of an object's first word.
+/// The objects of a heap while callbacks run. A place is the address of an object's first word.
 /// Whoever implements it says which nodes the objects stand for, what else it needs of itself, and
 /// what stays however often it is called.
 pub trait Bodies {

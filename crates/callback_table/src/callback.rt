@@ -8,8 +8,9 @@ use gc_graph::{Action, ActionKind};
 
 type Call = Box<dyn Fn(&[u64]) -> Action + Send>;
 
-/// A prefinalizer's code (`CPPGC_USING_PRE_FINALIZER`, `include/cppgc/prefinalizer.h`), and the
-/// kind of action that it is known to answer.
+/// The code of a prefinalizer (`CPPGC_USING_PRE_FINALIZER`, `include/cppgc/prefinalizer.h`) or of a
+/// weak callback (`WeakCallback`, `include/cppgc/visitor.h`), and the kind of action that it is known
+/// to answer.
 #[derive(Drop)]
 pub struct Callback {
     kind: ActionKind,
@@ -19,7 +20,7 @@ pub struct Callback {
 }
 
 impl Callback {
-    /// Keeps the call, which is given the shown words of a dying object.
+    /// Keeps the call, which is given the shown words of an object.
     pub fn new(kind: ActionKind, call: Call) -> Callback
         requires callable { IsCallable (λ words. Call.pre call words) }
         requires answers { AnswersAs (λ words action. Call.post call words action) kind }

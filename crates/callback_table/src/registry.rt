@@ -54,8 +54,7 @@ impl Registry {
     {
         self.entries.reserve(callbacks.len())?;
         // Each registration may be run, and has its room in what ran.
-        let needed = self.entries.len() + callbacks.len();
-        self.ran.reserve(needed.saturating_sub(self.ran.len()))?;
+        reserve_ran(&mut self.ran, self.entries.len() + callbacks.len())?;
         append(&mut self.entries, node, place, callbacks);
         Ok(())
     }
@@ -89,6 +88,15 @@ impl Registry {
     {
         &self.ran
     }
+}
+
+/// Makes room for so many calls in what ran. Want of memory is free.
+pub(crate) fn reserve_ran(ran: &mut Vec<(u32, u32)>, calls: usize) -> Result<(), NoMemory>
+    ensures items { ran.new.items ≡ ran.old.items }
+    ensures room { OnOk result (calls ≤ vec_capacity ran.new) }
+    ensures capacity { vec_capacity ran.old ≤ vec_capacity ran.new }
+{
+    Ok(ran.reserve(calls.saturating_sub(ran.len()))?)
 }
 
 /// Appends a registration for each callback, for which there is room.

@@ -8,6 +8,7 @@ ghost use Rattle.callback_table.specs.Registry.{pairs_run, entries_left};
 ghost use Rattle.callback_table.specs.Table.{callback_kinds};
 
 use crate::bodies::Bodies;
+use crate::masked::run;
 use crate::registry::{Registered, Registry};
 use crate::table::CallbackTable;
 
@@ -60,31 +61,11 @@ fn run_if_dead<B: Bodies>(
         (registration_of entry ∷ []) (B.nodes bodies.old)
         else B.nodes bodies.old) }
     ensures ready { B.is_ready bodies.new }
-    ensures registered { IsRegistered (B.nodes bodies.new)
-        (length (callback_kinds table.now)) entry }
     ensures rest { B.keeps bodies.old bodies.new }
 {
     let dead = bodies.dead(entry.place);
     if dead {
-        run(entry, table, bodies, shown);
+        run(entry, 0, table, bodies, shown);
     }
     dead
-}
-
-/// Calls the callback with the shown words of the object, and does what it answers.
-fn run<B: Bodies>(entry: Registered, table: &CallbackTable, bodies: &mut B, shown: &mut [u64; 64])
-    requires ready { B.is_ready bodies.old }
-    requires registered { IsRegistered (B.nodes bodies.old)
-        (length (callback_kinds table.now)) entry }
-    ensures nodes { B.nodes bodies.new
-        ≡ prefinalised (callback_kinds table.now)
-        (registration_of entry ∷ []) (B.nodes bodies.old) }
-    ensures ready { B.is_ready bodies.new }
-    ensures registered { IsRegistered (B.nodes bodies.new)
-        (length (callback_kinds table.now)) entry }
-    ensures rest { B.keeps bodies.old bodies.new }
-{
-    let count = bodies.words(entry.place, shown);
-    let action = table.call(entry.callback, &shown[..count as usize]);
-    bodies.apply(entry.place, action);
 }
