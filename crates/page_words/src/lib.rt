@@ -8,8 +8,8 @@
 //! the view of them that contracts see: which words they are, the types, and the mutator's view of the
 //! step machine in `marker_core`), `MarkerSeat` (the same of one marker, which `split` lends and `join`
 //! takes back), the calls on each, and `Bodywords`, which is the mutator's calls and a way from object
-//! to object. A load says why it is made (`Reason`). Inside, `accesses` and `marker_accesses` have one
-//! step of the table of each kind.
+//! to object; `Words` have both. A load says why it is made (`Reason`). Inside, `accesses` and
+//! `marker_accesses` have one step of the table of each kind, and `starts` the way along the start bits.
 //!
 //! | address | word |
 //! |---|---|
