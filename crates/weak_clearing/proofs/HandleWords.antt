@@ -30,7 +30,7 @@ clear_listed-push handles marked (o ∷ offsets) offset words = clear_listed-pus
 
 -- ---- the offsets of the fields of a kind, when the first of all fields begins at this one
 
-abbrev begin_from : Kind → ℕ → List Kind → List ℕ
+abbrev pub begin_from : Kind → ℕ → List Kind → List ℕ
 begin_from wanted offset [] = []
 begin_from wanted offset (kind ∷ kinds) =
     let rest : List ℕ = begin_from wanted (offset + words_of_kind kind) kinds in cond (is_kind wanted kind) (offset ∷ rest) rest
@@ -95,7 +95,7 @@ module _ (marked before : List ℕ) where
 
 -- ---- all of them
 
-some_word : (kind : Kind) (kinds : List Kind) → field_words (kind ∷ kinds) ≤ 0 → ⊥
+pub some_word : (kind : Kind) (kinds : List Kind) → field_words (kind ∷ kinds) ≤ 0 → ⊥
 some_word kind kinds few = omega (arith, few, sum_by-cons words_of_kind kind kinds, some kind) where
   some : (kind : Kind) → 1 ≤ words_of_kind kind
   some Strong = omega arith
@@ -178,7 +178,7 @@ told_next : (t : Bool) (f : ℕ → ℕ) (n offset : ℕ) (rest later : List ℕ
 told_next true f n offset rest later at is = ap (λ o. o ∷ map f rest) at ∙ ap (λ os. offset ∷ os) is
 told_next false f n offset rest later at is = is
 
-told_is : (wanted : Kind) (before kinds : List Kind) → told_from wanted (before ++ kinds) (length before) (length kinds) ≡ begin_from wanted (2 + field_words before) kinds
+pub told_is : (wanted : Kind) (before kinds : List Kind) → told_from wanted (before ++ kinds) (length before) (length kinds) ≡ begin_from wanted (2 + field_words before) kinds
 told_is wanted before [] = refl
 told_is wanted before (kind ∷ kinds) =
     told_here wanted before kind kinds

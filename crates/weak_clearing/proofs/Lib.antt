@@ -7,3 +7,4 @@ pub mod ObjectWalk
 pub mod BlockWalk
 pub mod InTurn
 pub mod NoHandles
+pub mod DyingWords

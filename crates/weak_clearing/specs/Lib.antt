@@ -1,4 +1,5 @@
 pub mod Clearing
 pub mod Steps
+pub mod Dying
 -- Words of the crates below that the crates above name too.
 pub use Rattle.page_space.specs.Space

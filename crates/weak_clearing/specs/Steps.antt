@@ -1,5 +1,5 @@
 -- The steps of clearing: one body, and one handle of it.
-use Rattle.std.specs.Prelude.{◌≡◌, ℕ, ◌+◌, ◌-◌, ◌/◌, ◌≤◌, ◌==◌, true, List, map, slice_index, slice_set, if◌then◌else◌, Contains}
+use Rattle.std.specs.Prelude.{◌≡◌, ℕ, ◌+◌, ◌-◌, ◌/◌, ◌≤◌, ◌==◌, Bool, true, List, map, slice_index, slice_set, if◌then◌else◌, Contains}
 use Rattle.gc_graph.specs.declared.kind.Kind.{Kind}
 use Rattle.gc_graph.specs.declared.kind.Kind.TheVariants.{Weak, Pair}
 use Rattle.gc_graph.specs.State.{ObjectType}
@@ -11,6 +11,7 @@ use Rattle.marker_core.specs.Bodies.{IsReference, holds}
 use Rattle.marker_core.specs.declared.states.Body.{Body}
 use Rattle.page_words.specs.Bodies.{kind_in}
 use Rattle.page_words.specs.Seat.{SeatView, block_words, with_bodies}
+use Rattle.member_fields.specs.Words.{IsWordIn}
 use Rattle.weak_clearing.specs.declared.weak_handles.WeakHandles.{WeakHandles}
 use Rattle.weak_clearing.specs.declared.weak_handles.WeakHandles.TheVariants.{Fields, Pairs}
 use Rattle.weak_clearing.specs.Clearing.{names_unmarked, clear_words, clear_pair_words}
@@ -35,6 +36,10 @@ pub record HasHandle (handles : WeakHandles) (v : SeatView) (holder word : ℕ) 
   pub told : Contains (offsets_of_kind (kind_of_handles handles) (declared_kinds v.types body.ty)) word
   pub kind : kind_in v.types body (word - first_field) ≡ kind_of_handles handles
   pub reference : IsReference v.bodies (slice_index body.fields (word - first_field))
+
+-- the answer is whether what the word at this offset of the object at `holder` holds names a body that is not marked
+abbrev pub NamesUnmarked : SeatView → ℕ → ℕ → Bool → Type 0
+NamesUnmarked v holder word answer = (w : ℕ) × IsWordIn v holder word w × (answer ≡ names_unmarked v.marked w)
 
 -- the words of the handle whose first one has the number i are null
 abbrev pub nulled : WeakHandles → ℕ → List ℕ → List ℕ

@@ -9,10 +9,10 @@ ghost use Rattle.weak_clearing.specs.declared.weak_handles.WeakHandles.TheVarian
 ghost use Rattle.weak_clearing.specs.Clearing.{MarkedHaveWeakReferences, with_weak_cleared};
 ghost use Rattle.weak_clearing.specs.Steps.{HasHandle, handle_cleared};
 
-use crate::marks::is_to_unmarked;
+use crate::dying_fields::is_dying;
 use crate::walk::clear_handles;
 use crate::weak_handles::WeakHandles;
-use member_fields::{get, set_weak};
+use member_fields::set_weak;
 use page_space::Space;
 use page_words::MutatorSeat;
 use type_table::TypeTable;
@@ -38,8 +38,7 @@ pub(crate) fn clear_field(space: &Space, seat: &mut MutatorSeat, holder: u32, wo
     ensures looked { StartsWith seat.new.looked seat.old.looked }
 {
     seat.bodies_lie_apart();
-    let target = get(space, seat, holder, word);
-    if is_to_unmarked(space, seat, target) {
+    if is_dying(space, seat, holder, word) {
         set_weak(space, seat, holder, word, 0);
     }
 }
