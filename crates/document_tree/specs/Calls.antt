@@ -5,12 +5,12 @@ use Rattle.oilpan.specs.declared.handles.Root.{Root}
 use Rattle.oilpan.specs.Handles.{Holds}
 
 -- the heap has the two types and room for so many commands
-abbrev pub HasRoom : ℕ → View → Type 0
-HasRoom count heap = (length heap.setup.types ≡ 2) × (heap.state.ordinal + count ≤ 1000)
+abbrev pub IsReady : ℕ → View → Type 0
+IsReady count heap = (length heap.setup.types ≡ 2) × (heap.state.ordinal + count ≤ 1000)
 
--- and the root holds
-abbrev pub IsReady : ℕ → View → Root → Type 0
-IsReady count heap root = HasRoom count heap × Holds heap.state root
+-- it is ready, and the root holds
+abbrev pub IsReadyWith : ℕ → View → Root → Type 0
+IsReadyWith count heap root = IsReady count heap × Holds heap.state root
 
 -- at most so many commands were done, and each root that held holds
 abbrev pub Keeps : ℕ → View → View → Type 0

@@ -2,7 +2,7 @@
 
 ghost use Rattle.std.specs.Prelude.{◌*◌, ◌<◌};
 ghost use Rattle.oilpan.specs.Handles.{Holds};
-ghost use Rattle.document_tree.specs.Calls.{HasRoom, IsReady, Keeps};
+ghost use Rattle.document_tree.specs.Calls.{IsReady, IsReadyWith, Keeps};
 
 use anyhow::{Context, Result};
 use oilpan::{FreeGate, Oilpan, Root};
@@ -35,7 +35,7 @@ struct Editor<R> {
 
 /// Makes an editor, and tells what becomes of its elements.
 pub fn tell<R: Threads + Wait + Print + Copy + Send + 'static>(heap: &mut Heap, rt: R) -> Result<()>
-    requires { HasRoom 100 heap.old.heap.core }
+    requires { IsReady 100 heap.old.heap.core }
 {
     heap.nodes_are_few();
     let object = heap.make(&rt, EDITOR, 0)?;
@@ -49,7 +49,7 @@ pub fn tell<R: Threads + Wait + Print + Copy + Send + 'static>(heap: &mut Heap, 
 impl<R: Threads + Wait + Print + Copy + Send + 'static> Editor<R> {
     /// Fills page and margin, unlinks what is in the margin, and collects.
     fn build(&self, heap: &mut Heap) -> Result<()>
-        requires { IsReady 60 heap.old.heap.core self.now.object }
+        requires { IsReadyWith 60 heap.old.heap.core self.now.object }
         ensures { Keeps 60 heap.old.heap.core heap.new.heap.core }
     {
         self.grow(heap, &self.object, PAGE, 3)?;
@@ -59,15 +59,18 @@ impl<R: Threads + Wait + Print + Copy + Send + 'static> Editor<R> {
         self.collect(heap)
     }
 
-    /// Collects in steps, and edits the tree between them.
+    /// Collects in steps, and edits the tree meanwhile.
     fn collect(&self, heap: &mut Heap) -> Result<()>
-        requires { IsReady 30 heap.old.heap.core self.now.object }
+        requires { IsReadyWith 30 heap.old.heap.core self.now.object }
         ensures { Keeps 30 heap.old.heap.core heap.new.heap.core }
     {
         heap.start(&self.rt)?;
-        heap.step(&self.rt, 1)?;
+        let stepped = heap.step(&self.rt, 1)?;
+        println!(self.rt; "{} traced before the edits", stepped.traced)?;
         let page = heap.get(&self.rt, &self.object, PAGE)?.context("no page")?;
+        // The editor is traced by now, and the child isn't marked: the write into the margin marks it.
         let moved = self.move_child(heap, &page);
+        // A new element takes its place, so that the margin alone names the child.
         let grown = self.grow(heap, &page, CHILD, 1);
         heap.release(&self.rt, page);
         moved.and(grown)?;
@@ -77,9 +80,9 @@ impl<R: Threads + Wait + Print + Copy + Send + 'static> Editor<R> {
         self.tell(heap, "swept")
     }
 
-    /// So many new elements: one in the holder's field, and the others below and after it.
+    /// So many new elements: one in the holder's field, and half of the others below it, half after it.
     fn grow(&self, heap: &mut Heap, holder: &Root, field: u32, count: u8) -> Result<()>
-        requires ready { IsReady (4 * count) heap.old.heap.core self.now.object }
+        requires ready { IsReadyWith (4 * count) heap.old.heap.core self.now.object }
         requires holder { Holds heap.old.heap.core.state holder.now }
         requires field { field < 67108864 }
         ensures { Keeps (4 * count) heap.old.heap.core heap.new.heap.core }
@@ -100,7 +103,7 @@ impl<R: Threads + Wait + Print + Copy + Send + 'static> Editor<R> {
 
     /// An element's child is in the margin too.
     fn move_child(&self, heap: &mut Heap, from: &Root) -> Result<()>
-        requires ready { IsReady 3 heap.old.heap.core self.now.object }
+        requires ready { IsReadyWith 3 heap.old.heap.core self.now.object }
         requires from { Holds heap.old.heap.core.state from.now }
         ensures { Keeps 3 heap.old.heap.core heap.new.heap.core }
     {
@@ -110,8 +113,9 @@ impl<R: Threads + Wait + Print + Copy + Send + 'static> Editor<R> {
         Ok(moved?)
     }
 
+    /// Tells of the objects that aren't finalised, of the torn down, and of the margin's element.
     fn tell(&self, heap: &mut Heap, when: &str) -> Result<()>
-        requires { IsReady 4 heap.old.heap.core self.now.object }
+        requires { IsReadyWith 4 heap.old.heap.core self.now.object }
         ensures { Keeps 4 heap.old.heap.core heap.new.heap.core }
     {
         let torn_down = heap.word(&self.rt, &self.object, TORN_DOWN)?;
