@@ -97,8 +97,8 @@ impl<R: Threads + Wait + Print + Copy + Send + 'static> Editor<R> {
         let grown = self.grow(heap, &element, CHILD, count / 2);
         let followed = self.grow(heap, &element, NEXT, (count - 1) / 2);
         heap.release(&self.rt, element);
-        observed.and(linked)?;
-        grown.and(followed)
+        let linked = observed.and(linked).context("not linked");
+        linked.and(grown).and(followed)
     }
 
     /// An element's child is in the margin too.
