@@ -2,7 +2,8 @@
 
 ghost use Rattle.std.specs.Prelude.{◌*◌, ◌<◌};
 ghost use Rattle.oilpan.specs.Handles.{Holds};
-ghost use Rattle.document_tree.specs.Calls.{IsReady, IsReadyWith, Keeps};
+ghost use Rattle.oilpan.specs.Frame.{Keeps};
+ghost use Rattle.document_tree.specs.Calls.{IsReady, IsReadyWith};
 
 use anyhow::{Context, Result};
 use oilpan::{FreeGate, Oilpan, Root};

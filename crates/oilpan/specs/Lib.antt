@@ -1,5 +1,6 @@
 pub mod GetErrors
 pub mod Handles
+pub mod Frame
 pub mod Rest
 pub mod Region
 pub mod Asked

@@ -34,7 +34,10 @@
 //! In `crates.txt` a program's line names `oilpan`, and `anyhow` if its errors are to be one. Its
 //! clauses need `Rattle.oilpan.specs.Handles.{HasRoom, Holds, Shares, Watches}`, and for what `open` wants
 //! `Rattle.oilpan.specs.Objects.{HaveCallbacks}`. A clause may speak of all that a heap is known by, its `core`
-//! (`Rattle.oilpan.specs.View.{View}`).
+//! (`Rattle.oilpan.specs.View.{View}`); what a function that makes calls keeps is one of
+//! `Rattle.oilpan.specs.Frame.{Takes, Keeps, KeepsOthers}`. `rt` is what `main` is handed. A function that
+//! takes it has the bounds `R: Threads + Wait + Copy + Send + 'static`, of `std::thread` and `std::sync`, and
+//! the file `HANDLES` allows both.
 //!
 //! What is proved: each call does one command of `heap_engine`, and `collect` at most two; what it answers
 //! and what it changes is what `gc_graph` says of that command. A root that holds goes on to hold, through

@@ -5,7 +5,3 @@ use Rattle.oilpan.specs.View.{View}
 -- the heap has the one type and room for so many commands
 abbrev pub IsReady : ℕ → View → Type 0
 IsReady count heap = (length heap.setup.types ≡ 1) × (heap.state.ordinal + count ≤ 1000)
-
--- at most so many commands were done
-abbrev pub Took : ℕ → View → View → Type 0
-Took count old new = (new.setup ≡ old.setup) × (new.state.ordinal ≤ old.state.ordinal + count)

@@ -3,7 +3,8 @@
 ghost use Rattle.std.specs.Prelude.{IfOk};
 ghost use Rattle.oilpan.specs.declared.handles.SharedRoot.{SharedRoot};
 ghost use Rattle.oilpan.specs.Handles.{Shares};
-ghost use Rattle.shared_handles.specs.Calls.{IsReady, Took};
+ghost use Rattle.oilpan.specs.Frame.{Takes};
+ghost use Rattle.shared_handles.specs.Calls.{IsReady};
 
 use anyhow::Result;
 use oilpan::{FreeGate, Oilpan, SharedRoot};
@@ -43,7 +44,7 @@ pub fn tell<R: Runtime>(heap: &mut Heap, rt: &R) -> Result<()>
 /// A note with this number, which only a shared root keeps.
 fn shared_note<R: Runtime>(heap: &mut Heap, rt: &R, number: u64) -> Result<SharedRoot>
     requires { IsReady 4 heap.old.heap.core }
-    ensures took { Took 4 heap.old.heap.core heap.new.heap.core }
+    ensures took { Takes 4 heap.old.heap.core heap.new.heap.core }
     ensures shares { IfOk result (Shares heap.new.heap.core.state heap.new.shared) }
 {
     heap.nodes_are_few();
@@ -63,7 +64,7 @@ fn shared_note<R: Runtime>(heap: &mut Heap, rt: &R, number: u64) -> Result<Share
 fn number_of<R: Runtime>(heap: &mut Heap, rt: &R, shared: &SharedRoot) -> Result<u64>
     requires ready { IsReady 3 heap.old.heap.core }
     requires shared { Shares heap.old.heap.core.state heap.old.shared shared.now }
-    ensures took { Took 3 heap.old.heap.core heap.new.heap.core }
+    ensures took { Takes 3 heap.old.heap.core heap.new.heap.core }
     ensures shares { Shares heap.new.heap.core.state heap.new.shared shared.now }
 {
     let note = heap.root_of(rt, shared)?;
@@ -75,7 +76,7 @@ fn number_of<R: Runtime>(heap: &mut Heap, rt: &R, shared: &SharedRoot) -> Result
 /// How many objects a collection leaves.
 fn collected<R: Runtime>(heap: &mut Heap, rt: &R) -> Result<u32>
     requires { IsReady 4 heap.old.heap.core }
-    ensures took { Took 4 heap.old.heap.core heap.new.heap.core }
+    ensures took { Takes 4 heap.old.heap.core heap.new.heap.core }
     ensures shares { (o : SharedRoot) →
         Shares heap.old.heap.core.state heap.old.shared o →
         Shares heap.new.heap.core.state heap.new.shared o }

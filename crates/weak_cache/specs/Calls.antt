@@ -1,23 +1,7 @@
--- What the calls of this program want of a heap, and what they keep.
+-- What the calls of this program want of a heap.
 use Rattle.std.specs.Prelude.{◌≡◌, ℕ, ◌+◌, ◌≤◌, length}
 use Rattle.oilpan.specs.View.{View}
-use Rattle.oilpan.specs.declared.handles.Root.{Root}
-use Rattle.oilpan.specs.Handles.{Holds}
 
 -- the heap has the three types and room for so many commands
 abbrev pub IsReady : ℕ → View → Type 0
 IsReady count heap = (length heap.setup.types ≡ 3) × (heap.state.ordinal + count ≤ 1000)
-
--- at most so many commands were done, and each root that held holds
-abbrev pub Keeps : ℕ → View → View → Type 0
-Keeps count old new =
-    (new.setup ≡ old.setup)
-    × (new.state.ordinal ≤ old.state.ordinal + count)
-    × ((o : Root) → Holds old.state o → Holds new.state o)
-
--- at most so many commands were done, and each root that held holds, but for those of one slot
-abbrev pub KeepsOthers : Root → ℕ → View → View → Type 0
-KeepsOthers root count old new =
-    (new.setup ≡ old.setup)
-    × (new.state.ordinal ≤ old.state.ordinal + count)
-    × ((o : Root) → Holds old.state o → ¬ (o.slot ≡ root.slot) → Holds new.state o)

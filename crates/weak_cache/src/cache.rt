@@ -1,7 +1,8 @@
 // A cache whose entries die with their keys.
 
 ghost use Rattle.oilpan.specs.Handles.{Holds};
-ghost use Rattle.weak_cache.specs.Calls.{IsReady, Keeps};
+ghost use Rattle.oilpan.specs.Frame.{Keeps};
+ghost use Rattle.weak_cache.specs.Calls.{IsReady};
 
 use anyhow::Result;
 use oilpan::{FreeGate, Oilpan, Root};

@@ -2,7 +2,8 @@
 
 ghost use Rattle.std.specs.Prelude.{◌+◌, ◌*◌, ◌-◌};
 ghost use Rattle.oilpan.specs.Handles.{Holds};
-ghost use Rattle.weak_cache.specs.Calls.{IsReady, Keeps, KeepsOthers};
+ghost use Rattle.oilpan.specs.Frame.{Keeps, KeepsOthers};
+ghost use Rattle.weak_cache.specs.Calls.{IsReady};
 
 use crate::cache::{Heap, Runtime, WeakCache};
 use anyhow::Result;
