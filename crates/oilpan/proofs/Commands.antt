@@ -1,5 +1,5 @@
 -- A command that a call gave is a step of which the laws of steps hold.
-use Rattle.std.proofs.Common.{◌≡◌, ◌<◌, ◌+◌, ℕ, true, false, List, length, None, refl, sym, ap, ◌∙◌, true≢false}
+use Rattle.std.proofs.Common.{◌≡◌, ◌<◌, ◌+◌, ℕ, true, false, List, length, None, refl, sym, ap, ◌∙◌, subst, true≢false}
 use Rattle.gc_graph.specs.declared.command.Command.{Command}
 use Rattle.gc_graph.specs.declared.command.Command.TheVariants as C
 use Rattle.gc_graph.specs.declared.line.Line.{Line}
@@ -14,12 +14,12 @@ use Rattle.gc_graph.specs.Commands.{family_of, WritesStack, SpeaksOf, IsOutOfPha
 use Rattle.gc_graph.specs.Families.{StaysElse, StepsStayInTheirFamily}
 use Rattle.gc_graph.specs.FrameLaw.{StepsLeaveRest, LeavesRest}
 use Rattle.gc_graph.specs.ValidLaw.{StepKeepsValid}
-use Rattle.gc_graph.specs.HandleLaw.{IsLast, LastLinesMean, WeakSlotsTellLives, Means, MeansDone, MeansRead, MeansWord, IsTurnedDown}
+use Rattle.gc_graph.specs.HandleLaw.{IsLast, LastLinesMean, WeakSlotsTellLives, Means, MeansDone, MeansWord, IsTurnedDown}
 use Rattle.gc_graph.specs.HistoryLaw.{StepsFollow}
 use Rattle.gc_graph.specs.RegionLaw.{CallsChangeTheirSlot}
 use Rattle.gc_graph.specs.ThreadLaw.{StepsLeaveThreads, is_of_threads}
 use Rattle.oilpan.proofs.Pieces.{keeps}
-use Rattle.oilpan.specs.Asked.{is_of_face, is_write, is_read, IsAsked}
+use Rattle.oilpan.specs.Asked.{is_of_face, is_write, ReadsInto, IsAsked}
 
 no_stack : (command : Command) → is_of_face command ≡ true → WritesStack command → ⊥
 no_stack (C.Push p o) is writes = true≢false (sym is)
@@ -80,12 +80,6 @@ write_only s (C.PairNull p f) is = record { phase = λ h. h; stopped = λ h. h; 
 write_only s (C.Put p f n) is = record { phase = λ h. h; stopped = λ h. h; lacks = λ h. h }
 write_only s command is = absurd (true≢false (sym is))
 
-read_only : (s : State) (command : Command) → is_read command ≡ true → OnlyForFields s command
-read_only s (C.Get p f q) is = record { phase = λ h. h; stopped = λ h. h; lacks = λ h. h }
-read_only s (C.Key p f q) is = record { phase = λ h. h; stopped = λ h. h; lacks = λ h. h }
-read_only s (C.Val p f q) is = record { phase = λ h. h; stopped = λ h. h; lacks = λ h. h }
-read_only s command is = absurd (true≢false (sym is))
-
 module _ (old new : State) (command : Command) (only : OnlyForFields old command) (held : SpeaksOf old command None → ⊥) where
   no_other : (why : Refusal) → IsTurnedDown old command why new → (why ≡ R.Field → ⊥) → (why ≡ R.Kind → ⊥) → ⊥
   no_other R.Phase h field kind = only.phase h.reason.0
@@ -100,14 +94,6 @@ module _ (old new : State) (command : Command) (only : OnlyForFields old command
   done_or Done L.Fine h fine field kind = fine refl
   done_or Done (L.Refused why) h fine field kind = no_other why h (λ e. field (ap (λ w. L.Refused w) e)) (λ e. kind (ap (λ w. L.Refused w) e))
   done_or Done _ h fine field kind = h
-
-  read_or : (Gives : ℕ → Type 0) (Nothing : Type 0) (line : Line) → MeansRead old command new Gives Nothing line → ((n : ℕ) → line ≡ L.Node n → ⊥)
-      → (line ≡ L.Null → ⊥) → (line ≡ L.Refused R.Field → ⊥) → (line ≡ L.Refused R.Kind → ⊥) → ⊥
-  read_or Gives Nothing (L.Node n) h node null field kind = node n refl
-  read_or Gives Nothing L.Null h node null field kind = null refl
-  read_or Gives Nothing (L.Refused why) h node null field kind =
-      no_other why h (λ e. field (ap (λ w. L.Refused w) e)) (λ e. kind (ap (λ w. L.Refused w) e))
-  read_or Gives Nothing _ h node null field kind = h
 
   word_or : (Tells : ℕ → Type 0) (line : Line) → MeansWord old command new Tells line → ((n : ℕ) → line ≡ L.Word n → ⊥)
       → (line ≡ L.Refused R.Field → ⊥) → (line ≡ L.Refused R.Kind → ⊥) → ⊥
@@ -127,14 +113,6 @@ module _ (setup : Setup) (old new : State) (piece : List Entry) (lines : List Li
   write_lines (C.Put p f n) is held h = done_or old new (C.Put p f n) (write_only old (C.Put p f n) is) held _ line h
   write_lines command is held h = absurd (true≢false (sym is))
 
-  -- no line but these answers a read
-  pub read_lines : (command : Command) → is_read command ≡ true → (SpeaksOf old command None → ⊥) → Means setup old command piece lines new line
-      → ((n : ℕ) → line ≡ L.Node n → ⊥) → (line ≡ L.Null → ⊥) → (line ≡ L.Refused R.Field → ⊥) → (line ≡ L.Refused R.Kind → ⊥) → ⊥
-  read_lines (C.Get p f q) is held h = read_or old new (C.Get p f q) (read_only old (C.Get p f q) is) held _ _ line h
-  read_lines (C.Key p f q) is held h = read_or old new (C.Key p f q) (read_only old (C.Key p f q) is) held _ _ line h
-  read_lines (C.Val p f q) is held h = read_or old new (C.Val p f q) (read_only old (C.Val p f q) is) held _ _ line h
-  read_lines command is held h = absurd (true≢false (sym is))
-
   -- no line but these answers a plain word
   pub word_lines : (p f : ℕ) → (SpeaksOf old (C.Word p f) None → ⊥) → Means setup old (C.Word p f) piece lines new line
       → ((n : ℕ) → line ≡ L.Word n → ⊥) → (line ≡ L.Refused R.Field → ⊥) → (line ≡ L.Refused R.Kind → ⊥) → ⊥
@@ -146,5 +124,11 @@ module _ (setup : Setup) (old new : State) (piece : List Entry) (lines : List Li
 pub write_makes_none : (command : Command) → is_write command ≡ true → (p t e : ℕ) → command ≡ C.New p t e → ⊥
 write_makes_none command is p t e same = true≢false (sym is ∙ ap is_write same)
 
-pub read_makes_none : (command : Command) → is_read command ≡ true → (p t e : ℕ) → command ≡ C.New p t e → ⊥
-read_makes_none command is p t e same = true≢false (sym is ∙ ap is_read same)
+pub read_makes_none : (slot : ℕ) (command : Command) → ReadsInto slot command → (p t e : ℕ) → command ≡ C.New p t e → ⊥
+read_makes_none slot command into p t e same = subst (ReadsInto slot) same into
+
+pub read_is_of_face : (slot : ℕ) (command : Command) → ReadsInto slot command → is_of_face command ≡ true
+read_is_of_face slot (C.Get p f q) into = refl
+read_is_of_face slot (C.Key p f q) into = refl
+read_is_of_face slot (C.Val p f q) into = refl
+read_is_of_face slot command into = absurd into

@@ -37,14 +37,7 @@ is_write (C.PairNull p f) = true
 is_write (C.Put p f n) = true
 is_write command = false
 
--- the commands that read a node from a field
-abbrev pub is_read : Command → Bool
-is_read (C.Get p f q) = true
-is_read (C.Key p f q) = true
-is_read (C.Val p f q) = true
-is_read command = false
-
--- the slot into which the command reads from a field
+-- the slot into which the command reads a node from a field
 abbrev pub ReadsInto : ℕ → Command → Type 0
 ReadsInto slot (C.Get p f q) = q ≡ slot
 ReadsInto slot (C.Key p f q) = q ≡ slot
@@ -60,12 +53,6 @@ why_of F.Kind = R.Kind
 abbrev pub line_of_write : {T : Type 0} → Result T FieldError → Line
 line_of_write (Ok done) = L.Fine
 line_of_write (Err why) = L.Refused (why_of why)
-
--- the line of a read's answer
-abbrev pub line_of_read : Result (Option ℕ) FieldError → Line
-line_of_read (Ok (Some n)) = L.Node n
-line_of_read (Ok None) = L.Null
-line_of_read (Err why) = L.Refused (why_of why)
 
 -- the line of a read's answer, where what was read has a root
 abbrev pub line_of_roots : Result (Option Root) FieldError → Line

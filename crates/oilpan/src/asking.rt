@@ -1,13 +1,15 @@
 // A command, and the answer that its last line tells.
 
-ghost use Rattle.std.specs.Prelude.{◌≡◌, ◌<◌, false, true, length, None};
+ghost use Rattle.std.specs.Prelude.{◌≡◌, ◌<◌, ◌⊎◌, false, true, length, None};
 ghost use Rattle.gc_graph.specs.Lawful.{IsAllowed};
 ghost use Rattle.gc_graph.specs.Commands.{SpeaksOf};
 ghost use Rattle.heap_engine.specs.Acted.{HasNumber};
 ghost use Rattle.oilpan.specs.Handles.{HasRoom};
-ghost use Rattle.oilpan.specs.Asked.{IsAsked, is_of_face, is_read, is_write};
-ghost use Rattle.oilpan.specs.Asked.{line_of_read, line_of_word, line_of_write};
+ghost use Rattle.oilpan.specs.Asked.{IsAsked, is_of_face, is_write};
+ghost use Rattle.oilpan.specs.Asked.{line_of_word, line_of_write, why_of};
 ghost use Rattle.gc_graph.specs.declared.command.Command.TheVariants as C;
+ghost use Rattle.gc_graph.specs.declared.line.Line.TheVariants as L;
+ghost use Rattle.gc_graph.specs.declared.line.Refusal.TheVariants as R;
 ghost use Rattle.gc_graph.specs.Outcomes.{slot_at};
 
 use crate::errors::FieldError;
@@ -21,6 +23,7 @@ use std::sync::Wait;
 use std::thread::Threads;
 
 /// Does a command, and tells its last line.
+#[inline(always)]
 pub(crate) fn ask<R: Threads + Wait + Copy + Send + 'static, G: Gate + Send + Sync + 'static>(
     heap: &mut Heap<'_, G>,
     rt: &R,
@@ -49,6 +52,7 @@ pub(crate) fn ask<R: Threads + Wait + Copy + Send + 'static, G: Gate + Send + Sy
 }
 
 /// Writes a field of an object that a slot names.
+#[inline(always)]
 pub(crate) fn write<R: Threads + Wait + Copy + Send + 'static, G: Gate + Send + Sync + 'static>(
     heap: &mut Heap<'_, G>,
     rt: &R,
@@ -68,40 +72,12 @@ pub(crate) fn write<R: Threads + Wait + Copy + Send + 'static, G: Gate + Send + 
 {
     match ask(heap, rt, command) {
         Line::Fine => Ok(()),
-        Line::Refused(Refusal::Field) => Err(FieldError::Field),
-        Line::Refused(Refusal::Kind) => Err(FieldError::Kind),
-        _ => unreachable!(),
-    }
-}
-
-/// Reads a node from a field of an object that a slot names.
-pub(crate) fn read<R: Threads + Wait + Copy + Send + 'static, G: Gate + Send + Sync + 'static>(
-    heap: &mut Heap<'_, G>,
-    rt: &R,
-    command: &Command,
-) -> Result<Option<u32>, FieldError>
-    requires room { HasRoom heap.old.core.state 1 }
-    requires pages { 0 < heap.old.core.setup.shape.pages }
-    requires opened { heap.old.core.closed ≡ false }
-    requires allowed { IsAllowed (length heap.old.core.setup.types) command.now }
-    requires face { is_of_face command.now ≡ true }
-    requires read { is_read command.now ≡ true }
-    requires object { ¬ (SpeaksOf heap.old.core.state command.now None) }
-    ensures asked { IsAsked heap.old.core.setup heap.old.core.state heap.new.core.state
-        command.now heap.new.core.piece heap.new.core.lines (line_of_read result) }
-    ensures setup { heap.new.core.setup ≡ heap.old.core.setup }
-    ensures opened { heap.new.core.closed ≡ false }
-{
-    match ask(heap, rt, command) {
-        Line::Node { k } => Ok(Some(k)),
-        Line::Null => Ok(None),
-        Line::Refused(Refusal::Field) => Err(FieldError::Field),
-        Line::Refused(Refusal::Kind) => Err(FieldError::Kind),
-        _ => unreachable!(),
+        line => Err(field_error(line)),
     }
 }
 
 /// Reads a plain word of the object that slot p names.
+#[inline(always)]
 pub(crate) fn read_word<R: Threads + Wait + Copy + Send + 'static, G: Gate + Send + Sync + 'static>(
     heap: &mut Heap<'_, G>,
     rt: &R,
@@ -121,8 +97,20 @@ pub(crate) fn read_word<R: Threads + Wait + Copy + Send + 'static, G: Gate + Sen
 {
     match ask(heap, rt, &Command::Word { p, f }) {
         Line::Word { n } => Ok(n),
-        Line::Refused(Refusal::Field) => Err(FieldError::Field),
-        Line::Refused(Refusal::Kind) => Err(FieldError::Kind),
+        line => Err(field_error(line)),
+    }
+}
+
+/// Why a field is refused that a slot's object lacks, or has of another kind.
+#[cold]
+#[inline(never)]
+pub(crate) fn field_error(line: Line) -> FieldError
+    requires { (line ≡ L.Refused R.Field) ⊎ (line ≡ L.Refused R.Kind) }
+    ensures { line ≡ L.Refused (why_of result) }
+{
+    match line {
+        Line::Refused(Refusal::Field) => FieldError::Field,
+        Line::Refused(Refusal::Kind) => FieldError::Kind,
         _ => unreachable!(),
     }
 }

@@ -23,6 +23,7 @@ use std::thread::Threads;
 
 impl<'a, G: Gate + Send + Sync + 'static> Oilpan<'a, G> {
     /// The holder's field names the target afterwards.
+    #[inline(always)]
     pub fn set<R: Threads + Wait + Copy + Send + 'static>(
         &mut self,
         rt: &R,
@@ -94,6 +95,7 @@ impl<'a, G: Gate + Send + Sync + 'static> Oilpan<'a, G> {
     }
 
     /// A root for what the holder's field names.
+    #[inline(always)]
     pub fn get<R: Threads + Wait + Copy + Send + 'static>(
         &mut self,
         rt: &R,

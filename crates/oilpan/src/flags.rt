@@ -2,16 +2,27 @@
 
 ghost use Rattle.std.specs.Prelude.{◌≡◌, ◌<◌, ◌≤◌, false, true, IfSome, length, slice_index_or};
 
-/// A flag that isn't set: the one that was asked for, or else the first.
-pub(crate) fn free_flag(flags: &[bool], likely: u32) -> Option<u32>
+/// A flag that isn't set: the likely one, or else the first.
+#[inline(always)]
+pub(crate) fn free_flag(flags: &[bool], likely: u8) -> Option<u32>
     requires { length flags.now ≤ 256 }
     ensures low { IfSome result (λ i. i < length flags.now) }
     ensures free { IfSome result (λ i. slice_index_or flags.now i true ≡ false) }
 {
-    let likely = likely as usize;
-    if likely < flags.len() && !flags[likely] {
-        return Some(likely as u32);
+    let at = usize::from(likely);
+    if at < flags.len() && !flags[at] {
+        Some(u32::from(likely))
+    } else {
+        first_free(flags)
     }
+}
+
+#[inline(never)]
+fn first_free(flags: &[bool]) -> Option<u32>
+    requires { length flags.now ≤ 256 }
+    ensures low { IfSome result (λ i. i < length flags.now) }
+    ensures free { IfSome result (λ i. slice_index_or flags.now i true ≡ false) }
+{
     for i in 0..flags.len() {
         if !flags[i] {
             return Some(i as u32);

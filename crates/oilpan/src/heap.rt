@@ -28,8 +28,9 @@ pub struct Oilpan<'a, G> {
     pub(crate) taken: [bool; 256],
     pub(crate) watched: [bool; 64],
     pub(crate) shared: [Sharing; 32],
-    /// A slot that was given back not long ago.
-    pub(crate) likely: u32,
+    /// A slot that is likely not given out: the last one that was given back, or the next after the last one that was
+    /// given out.
+    pub(crate) likely: u8,
     pub ghost opened: { heap.core.closed ≡ false },
     pub ghost at_rest: { IsAtRest heap.core.setup heap.core.state taken },
     pub ghost region: { IsRegionAtRest heap.core.state shared },

@@ -7,11 +7,11 @@ ghost use Rattle.gc_graph.specs.Commands.{SpeaksOf};
 ghost use Rattle.oilpan.specs.Handles.{HasRoom};
 ghost use Rattle.oilpan.specs.Asked.{IsAsked, ReadsInto, line_of_roots};
 
-use crate::asking::read;
+use crate::asking::{ask, field_error};
 use crate::errors::FieldError;
 use crate::handles::Root;
 use crate::heap::Oilpan;
-use gc_graph::Command;
+use gc_graph::{Command, Line};
 use heap_engine::Gate;
 use std::sync::Wait;
 use std::thread::Threads;
@@ -19,6 +19,7 @@ use std::thread::Threads;
 impl<'a, G: Gate + Send + Sync + 'static> Oilpan<'a, G> {
     /// Does a command that reads a field into a slot that isn't given out, and gives the slot out where a
     /// node was read.
+    #[inline(always)]
     pub(crate) fn read_into<R: Threads + Wait + Copy + Send + 'static>(
         &mut self,
         rt: &R,
@@ -40,15 +41,18 @@ impl<'a, G: Gate + Send + Sync + 'static> Oilpan<'a, G> {
         ensures shared { self.new.shared ≡ self.old.shared }
     {
         self.taken[slot as usize] = true;
-        match read(&mut self.heap, rt, command) {
-            Ok(Some(node)) => Ok(Some(Root { slot, node })),
-            Ok(None) => {
+        match ask(&mut self.heap, rt, command) {
+            Line::Node { k } => {
+                self.likely = (slot as u8).wrapping_add(1);
+                Ok(Some(Root { slot, node: k }))
+            }
+            Line::Null => {
                 self.taken[slot as usize] = false;
                 Ok(None)
             }
-            Err(why) => {
+            line => {
                 self.taken[slot as usize] = false;
-                Err(why)
+                Err(field_error(line))
             }
         }
     }

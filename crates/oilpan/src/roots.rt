@@ -58,7 +58,10 @@ impl<'a, G: Gate + Send + Sync + 'static> Oilpan<'a, G> {
         };
         self.taken[slot as usize] = true;
         match ask(&mut self.heap, rt, &command) {
-            Line::Placed { k, .. } => Ok(Root { slot, node: k }),
+            Line::Placed { k, .. } => {
+                self.likely = (slot as u8).wrapping_add(1);
+                Ok(Root { slot, node: k })
+            }
             Line::Full => {
                 self.taken[slot as usize] = false;
                 Err(MakeError::Full)
@@ -72,6 +75,7 @@ impl<'a, G: Gate + Send + Sync + 'static> Oilpan<'a, G> {
     }
 
     /// The root's slot is null afterwards, and may be given out again.
+    #[inline(always)]
     pub fn release<R: Threads + Wait + Copy + Send + 'static>(&mut self, rt: &R, root: Root)
         requires room { HasRoom self.old.heap.core.state 1 }
         requires held { Holds self.old.heap.core.state root }
@@ -90,6 +94,6 @@ impl<'a, G: Gate + Send + Sync + 'static> Oilpan<'a, G> {
         let Root { slot, node: _ } = root;
         let _line = ask(&mut self.heap, rt, &Command::Drop { p: slot });
         self.taken[slot as usize] = false;
-        self.likely = slot;
+        self.likely = slot as u8;
     }
 }

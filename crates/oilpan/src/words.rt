@@ -22,6 +22,7 @@ use std::thread::Threads;
 
 impl<'a, G: Gate + Send + Sync + 'static> Oilpan<'a, G> {
     /// The holder's plain word is this number afterwards.
+    #[inline(always)]
     pub fn put_word<R: Threads + Wait + Copy + Send + 'static>(
         &mut self,
         rt: &R,
@@ -59,6 +60,7 @@ impl<'a, G: Gate + Send + Sync + 'static> Oilpan<'a, G> {
 
     /// The number that the holder's plain word is. An object's extra words are plain fields after those of
     /// its type.
+    #[inline(always)]
     pub fn word<R: Threads + Wait + Copy + Send + 'static>(
         &mut self,
         rt: &R,

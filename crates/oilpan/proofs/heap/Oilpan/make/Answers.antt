@@ -6,8 +6,8 @@ use Rattle.oilpan.proofs.Making.{full_null, memory_null}
 use Rattle.oilpan.proofs.Resting.{rest_more, rest_less}
 use Rattle.oilpan.proofs.heap.Oilpan.make.Goals as goal
 
-pub invariant_of-self-in-Placed-1 : goal.invariant_of-self-in-Placed-1
-invariant_of-self-in-Placed-1 g c = record {
+pub invariant_of-self-in-Placed : goal.invariant_of-self-in-Placed
+invariant_of-self-in-Placed g c = record {
   opened = c.ask.ensures.opened;
   at_rest = given _ _ c.ask.ensures.setup _ _ _ _ _ _ c.ask.ensures.asked _
       (rest_more _ _ c.args.self.now.taken c.in-Some.slot c.in-Some.ensures.low c.args.self.now.at_rest) c.in-Some.slot (λ z writes. writes)
