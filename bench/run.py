@@ -18,7 +18,9 @@ import time
 # No compiled files beside the scripts.
 sys.dont_write_bytecode = True
 
+import face
 import loads
+import peer
 from loads import COLLECTION, PAUSE, STACK_COLLECTION, START, SWEEP
 
 ROOT = os.path.dirname(os.path.dirname(os.path.abspath(__file__)))
@@ -532,6 +534,8 @@ def main():
             bench.prefinalizers()
             bench.stack()
             bench.lazy_sweeps(bench.sweeps())
+            by_face = face.tell(bench.figures, bench.count)
+            peer.tell(bench.figures, folder, bench.instructions, by_face, bench.count)
     bench.figures.end()
 
 
