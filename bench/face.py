@@ -50,7 +50,7 @@ def sources():
     for folder in [SOURCES, *folders]:
         for path in files_below(folder):
             with open(path, "rb") as file:
-                found.update(path.encode() + b"\0" + file.read() + b"\0")
+                found.update(os.path.relpath(path, ROOT).encode() + b"\0" + file.read() + b"\0")
     return found.hexdigest()
 
 
@@ -79,17 +79,24 @@ def copy_checkout(top):
         file.write(listed + LINE)
 
 
+def call_rt(folder, *words):
+    """Runs rt in a crate's folder, and ends the bench with what it says if it fails."""
+    ran = subprocess.run(["rt", *words], cwd=folder, stdout=subprocess.PIPE, stderr=subprocess.STDOUT, check=False)
+    if ran.returncode != 0:
+        sys.exit(ran.stdout.decode(errors="replace") + "bench: the program of the loops could not be built")
+
+
 def build():
     """Proves and builds the program, if it isn't built from the sources as they are. It takes the libraries that were
     proved in this checkout, and `oilpan` is proved there first."""
     stamp = sources()
     if is_built(stamp):
         return
-    subprocess.run(["rt", "lib"], cwd=os.path.join(ROOT, "crates", "oilpan"), stdout=subprocess.DEVNULL, check=True)
+    call_rt(os.path.join(ROOT, "crates", "oilpan"), "lib")
     with tempfile.TemporaryDirectory() as top:
         copy_checkout(top)
         folder = os.path.join(top, "crates", NAME)
-        subprocess.run(["rt", "run", "--", "face", "get", "1"], cwd=folder, stdout=subprocess.DEVNULL, check=True)
+        call_rt(folder, "run", "--", "face", "get", "1")
         os.makedirs(os.path.dirname(PROGRAM), exist_ok=True)
         shutil.copy(os.path.join(folder, "out", NAME), PROGRAM)
     with open(BUILT_OF, "w", encoding="utf-8") as file:
@@ -109,7 +116,7 @@ def cost(way, loop, count):
 def tell(figures, count):
     """Tells what a turn costs by the face, and that over what its commands cost. Answers the former."""
     build()
-    by_face = {name: cost("face", name, count) for name in TURNS}
+    by_face = {name: cost("face", commands[0], count) for name, commands in TURNS.items()}
     by_act = {command: cost("act", command, count) for command in COMMANDS}
     for command, found in by_act.items():
         figures.tell(f"act_{command}_instructions", found)
