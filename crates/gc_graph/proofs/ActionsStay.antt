@@ -15,10 +15,10 @@ abbrev Stays : Setup → List Node → List Node → Type 0
 Stays setup nodes after = HaveStayed nodes after × AreTyped setup after
 
 same_stays : (setup : Setup) (nodes : List Node) → AreTyped setup nodes → Stays setup nodes nodes
-same_stays setup nodes typed = (record { count = refl; place = λ n. refl; life = λ n. refl }, typed)
+same_stays setup nodes typed = (record { count = refl; place = λ n. refl; life = λ n. refl; ty = λ n. refl }, typed)
 
 looks_stayed : (nodes after : List Node) → LookSame nodes after → HaveStayed nodes after
-looks_stayed nodes after same = record { count = same.whole; place = λ n. (same.like n).place; life = λ n. (same.like n).life }
+looks_stayed nodes after same = record { count = same.whole; place = λ n. (same.like n).place; life = λ n. (same.like n).life; ty = λ n. (same.like n).ty }
 
 written_stays : (setup : Setup) (nodes : List Node) (n : ℕ) (node : Node) → AreTyped setup nodes → IsGentle setup nodes (node_at nodes n) node
     → Stays setup nodes (set nodes n node)

@@ -1,7 +1,7 @@
 -- Each form of the table says commands with numbers in their ranges.
 use Rattle.std.proofs.Common.{◌≡◌, ℕ, zero, suc, ◌<◌, Bool, true, false, cond, List, [], ◌∷◌, ◌++◌, length, Option, Some, None, refl, sym, ap, ◌∙◌, subst, arith}
 use Rattle.std.specs.Prelude.{nat_lt, codes, ⊤}
-use Rattle.std.proofs.lemmas.Option.{same_Some, none-some}
+use Rattle.std.proofs.lemmas.Option.{same_Some}
 use Rattle.std.proofs.lemmas.List.{append-nil}
 use Rattle.gc_graph.specs.declared.command.Command.{Command}
 use Rattle.gc_graph.specs.declared.command.Command.TheVariants as C
@@ -11,7 +11,7 @@ use Rattle.gc_graph.specs.declared.command.Want.{Want}
 use Rattle.gc_graph.specs.declared.command.Want.TheVariants.{Precise, Conservative}
 use Rattle.gc_graph.specs.Lawful.{IsAllowed, IsAllowedOrder}
 use Rattle.gc_graph.specs.Words.{is_text}
-use Rattle.gc_graph.specs.Forms.{Place, Row, Form, thread, none, one, two, three, new_command, set_command, pair_command, sweep_command, threads_command, by_want, order_of_none, order_of_one, order_of_two, rows, gc_rows, at_rows, row_named, form_of, form_after_gc, form_after_at, plain_form, gc_form, at_form, type_places}
+use Rattle.gc_graph.specs.Forms.{Place, Row, Form, thread, none, one, two, three, new_command, set_command, pair_command, sweep_command, threads_command, by_want, order_of_none, order_of_one, order_of_two, rows, gc_rows, at_rows, row_named, form_of, form_after_gc, form_after_at, plain_form, gc_form, at_form}
 use Rattle.gc_graph.specs.Forms.Form.{Missing, Unknown, Known}
 use Rattle.gc_graph.specs.Reasons.{Bounds}
 use Rattle.gc_graph.proofs.SaidNumbers.{FitsFirst, IsFrom, IsFromOr, Fit}
@@ -320,17 +320,15 @@ after_at_allowed bounds (j ∷ []) = tt
 after_at_allowed bounds (j ∷ third ∷ rest) =
     at_allowed bounds (length rest) (row_named third at_rows) (chosen bounds (thread ∷ []) third at_rows (at_rows_allowed bounds))
 
-form_picked : (bounds : Bounds) (a b c : Bool) (types : List Place) (gc at plain : Form) → IsAllowedForm bounds gc → IsAllowedForm bounds at
-    → IsAllowedForm bounds plain → IsAllowedForm bounds (cond a (Known types (λ numbers. None)) (cond b gc (cond c at plain)))
-form_picked bounds true b c types gc at plain x y z = λ numbers command fits is. absurd (none-some command is)
-form_picked bounds false true c types gc at plain x y z = x
-form_picked bounds false false true types gc at plain x y z = y
-form_picked bounds false false false types gc at plain x y z = z
+form_picked : (bounds : Bounds) (b c : Bool) (gc at plain : Form) → IsAllowedForm bounds gc → IsAllowedForm bounds at
+    → IsAllowedForm bounds plain → IsAllowedForm bounds (cond b gc (cond c at plain))
+form_picked bounds true c gc at plain x y z = x
+form_picked bounds false true gc at plain x y z = y
+form_picked bounds false false gc at plain x y z = z
 
 pub form_allowed : (bounds : Bounds) (words : List (List ℕ)) → IsAllowedForm bounds (form_of words)
 form_allowed bounds [] = tt
 form_allowed bounds (first ∷ rest) =
-    form_picked bounds (is_text first (codes "type")) (is_text first (codes "gc")) (is_text first (codes "at")) (type_places rest)
-    (form_after_gc rest) (form_after_at rest) (plain_form (length rest) (row_named first rows)) (after_gc_allowed bounds rest)
+    form_picked bounds (is_text first (codes "gc")) (is_text first (codes "at")) (form_after_gc rest) (form_after_at rest) (plain_form (length rest) (row_named first rows)) (after_gc_allowed bounds rest)
     (after_at_allowed bounds rest)
     (plain_allowed bounds (length rest) (row_named first rows) (chosen bounds [] first rows (rows_allowed bounds)))

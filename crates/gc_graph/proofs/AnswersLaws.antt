@@ -11,16 +11,16 @@ use Rattle.gc_graph.specs.declared.line.Line.TheVariants as L
 use Rattle.gc_graph.specs.declared.line.Refusal.{Refusal}
 use Rattle.gc_graph.specs.declared.line.Refusal.TheVariants as R
 use Rattle.gc_graph.specs.declared.region.Entry.{Entry}
-use Rattle.gc_graph.specs.State.{Setup, State, Registration}
+use Rattle.gc_graph.specs.State.{Setup, State}
 use Rattle.gc_graph.specs.History.{node_of, region_slot}
 use Rattle.gc_graph.specs.Outcomes.{IsRefused, finalise_lines, took, slot_at}
-use Rattle.gc_graph.specs.Pause.{prefinalise_lines}
 use Rattle.gc_graph.specs.ObjectSteps.{StepNew}
 use Rattle.gc_graph.specs.CycleSteps.{is_marking, is_sweeping, is_stack_refused, StepGcStart, StepGcFinish, StepGcNow, StepSweepTo}
 use Rattle.gc_graph.specs.RegionSteps.{Answer, reply_line, line_of_content, StepThreadsJoin}
 use Rattle.gc_graph.specs.RegionSteps.Answer.{Replied, Told}
 use Rattle.gc_graph.specs.Step.{Step}
 use Rattle.gc_graph.specs.AnswersLaw.{IsAnsweredInKind, CommandsAreAnsweredInKind}
+use Rattle.gc_graph.proofs.Called.{each_callback_line}
 use Rattle.gc_graph.proofs.StepCases.{match_option, match_bool}
 use Rattle.gc_graph.proofs.Effects.{line_of_effect, IsInKind}
 use Rattle.gc_graph.proofs.PlainSteps.{plain_step}
@@ -58,11 +58,6 @@ module _ (command : Command) (lines : List Line) where
       → IsAnsweredInKind command lines
   after_sweep fits numbers told here e = in_kind (finalise_lines numbers) told [] e (all_finalised fits numbers) here (All-nil (IsInKind command))
 
-  all_run : ((n c : ℕ) → IsInKind command (L.Prefinalise n c)) → (registrations : List Registration) → All (IsInKind command) (prefinalise_lines registrations)
-  all_run fits [] = All-nil (IsInKind command)
-  all_run fits (r ∷ registrations) =
-      All-cons (IsInKind command) (L.Prefinalise r.node r.callback) (prefinalise_lines registrations) (fits r.node r.callback) (all_run fits registrations)
-
   sweep_to : ((n : ℕ) → IsInKind command (L.Finalise n)) → ((c : ℕ) → IsInKind command (L.Swept c)) → (setup : Setup) (old new : State) (pages : ℕ)
       → StepSweepTo setup old pages lines new → IsAnsweredInKind command lines
   sweep_to gone swept setup old new pages h =
@@ -98,7 +93,7 @@ finish_answer setup want old new piece lines h =
     match_bool (is_marking old.phase) _ _ _
     (λ rest. match_bool (is_stack_refused want old.stack) _ _ _ (λ r. refused (C.GcFinish want) lines old new R.Stack r.1)
     (λ f. in_kind (C.GcFinish want) lines [] _ _ f.1.done.lines_are (All-nil (IsInKind (C.GcFinish want))) refl
-    (all_run (C.GcFinish want) lines (λ n c. refl) _)) rest)
+    (each_callback_line (IsInKind (C.GcFinish want)) (λ n d. refl) (λ n c. refl) _ _)) rest)
     (λ r. refused (C.GcFinish want) lines old new R.Phase r.1) h
 
 now_answer : (setup : Setup) (want : Want) (old new : State) (piece : List Entry) (lines : List Line) → StepGcNow setup want old piece lines new
@@ -111,7 +106,7 @@ now_answer setup want old new piece lines h =
       | inr c ↦
           in_kind (C.GcNow want) lines (finalise_lines c.numbers) _ _
           (c.lines_are ∙ ap (λ ls. finalise_lines c.numbers ++ ls) c.pause.done.lines_are)
-          (all_finalised (C.GcNow want) lines (λ n. refl) c.numbers) refl (all_run (C.GcNow want) lines (λ n c. refl) _)
+          (all_finalised (C.GcNow want) lines (λ n. refl) c.numbers) refl (each_callback_line (IsInKind (C.GcNow want)) (λ n d. refl) (λ n c. refl) _ _)
     ]) rest) h
 
 -- ---- a join

@@ -11,6 +11,7 @@ use Rattle.gc_graph.specs.Fields.{new_node}
 use Rattle.gc_graph.specs.Sweep.{SweepsTo}
 use Rattle.gc_graph.specs.Outcomes.{took}
 use Rattle.gc_graph.specs.Pause.{condemn, run_order}
+use Rattle.gc_graph.specs.WeakCalls.{weak_calls}
 use Rattle.gc_graph.specs.ObjectSteps.{StepNew}
 use Rattle.gc_graph.specs.CycleSteps.{IsStart, IsPause, is_marking, is_sweeping, is_stack_refused, StepGcStart, StepGcFinish, StepGcNow, StepSweepTo}
 use Rattle.gc_graph.specs.Step.{Step}
@@ -50,7 +51,7 @@ paused : (setup : Setup) (markers : ℕ) (want : Want) (old new : State) (piece 
 paused setup markers want old new piece lines h =
     let mid : State = took old h.before in
     like old _ new h.done.after
-    (paused_weights setup.callbacks (run_order (condemn h.kept mid.nodes) mid.registrations) h.kept mid.nodes
+    (paused_weights setup.callbacks (weak_calls setup.types (condemn h.kept mid.nodes)) (run_order (condemn h.kept mid.nodes) mid.registrations) h.kept mid.nodes
     ∙ ap (λ (s : State). weights s.nodes) (took_else old h.before)) (ap (λ (s : State). s.finalised) (took_else old h.before))
 
 -- ---- the commands that make or end a life

@@ -69,7 +69,7 @@ dead_life Live e = cc
 dead_life Dead e = refl
 dead_life Gone e = cc
 
-named : (nodes : List Node) (value : Value) → names_dead (is_dead_at nodes) value ≡ true → (n : ℕ) × (value ≡ Ref n) × IsDead nodes n
+pub named : (nodes : List Node) (value : Value) → names_dead (is_dead_at nodes) value ≡ true → (n : ℕ) × (value ≡ Ref n) × IsDead nodes n
 named nodes Null e = absurd (true≢false (sym e))
 named nodes (Ref n) e = (n, refl, dead_life (node_at nodes n).life e)
 named nodes (Word w) e = absurd (true≢false (sym e))

@@ -2,7 +2,7 @@
 use Rattle.std.proofs.Common.{◌≡◌, ℕ, ◌+◌, ◌<◌, ◌≤◌, nat_lt, Bool, ◌||◌, true, false, true≢false, List, [], ◌∷◌, ◌++◌, length, All, refl, sym, ap, ◌∙◌, subst, inl, inr, arith}
 use mathlib.Core.Logic.{◌⊎◌}
 use Rattle.std.proofs.lemmas.List.{get_or_append_left, get_or_push, length_push}
-use Rattle.std.proofs.lemmas.List.Elements.{All-nil, All-cons, All-append}
+use Rattle.std.proofs.lemmas.List.Elements.{All-append}
 use Rattle.gc_graph.specs.declared.command.Command.{Command}
 use Rattle.gc_graph.specs.declared.command.Command.TheVariants as C
 use Rattle.gc_graph.specs.declared.command.Want.{Want}
@@ -11,19 +11,21 @@ use Rattle.gc_graph.specs.declared.line.Line.TheVariants as L
 use Rattle.gc_graph.specs.declared.line.Refusal.{Refusal}
 use Rattle.gc_graph.specs.declared.line.Refusal.TheVariants as R
 use Rattle.gc_graph.specs.declared.region.Entry.{Entry}
-use Rattle.gc_graph.specs.State.{Setup, State, Node, no_node, node_at, Life, is_there, IsLive, IsDead, RegionSlot, Registration}
+use Rattle.gc_graph.specs.State.{Setup, State, Node, no_node, node_at, Life, is_there, IsLive, IsDead, RegionSlot}
 use Rattle.gc_graph.specs.State.Life.{Live, Dead, Gone}
 use Rattle.gc_graph.specs.State.RegionSlot.{Vacant, StrongTo, WeakTo}
 use Rattle.gc_graph.specs.Graph.{has}
 use Rattle.gc_graph.specs.Fields.{new_node}
 use Rattle.gc_graph.specs.May.{read_node}
-use Rattle.gc_graph.specs.Pause.{judged, condemn, run_order, prefinalise_lines, paused}
+use Rattle.gc_graph.specs.Pause.{judged, condemn}
+use Rattle.gc_graph.specs.Paused.{paused}
 use Rattle.gc_graph.specs.History.{node_of, region_slot}
 use Rattle.gc_graph.specs.Outcomes.{answered, IsRefused, IsMemory, finalise_lines, slot_at, took}
 use Rattle.gc_graph.specs.ObjectSteps.{StepNew, IsMade}
 use Rattle.gc_graph.specs.CycleSteps.{is_marking, is_sweeping, is_stack_refused, IsStart, StepGcStart, StepGcStep, IsPause, StepGcFinish, IsCollection, StepGcNow, StepSweepTo}
 use Rattle.gc_graph.specs.RegionSteps.{line_of_content, IsImported, StepExport, StepImport}
 use Rattle.gc_graph.specs.Step.{Step}
+use Rattle.gc_graph.proofs.Called.{each_callback_line}
 use Rattle.gc_graph.proofs.StepCases.{match_option, match_bool}
 use Rattle.gc_graph.proofs.Sound.{IsSound}
 use Rattle.gc_graph.proofs.NodeWrites.{IsLikeNode, like_same, LookSame, look_same, look_written}
@@ -182,11 +184,11 @@ died Gone = inl refl
 
 judged_life : (flag : Bool) (x : Node) → IsJudged x (record x { life = judged flag x.life })
 judged_life true x = record { put = put_same x; life = inl refl }
-judged_life false x = record { put = record { place = refl; size = refl }; life = died x.life }
+judged_life false x = record { put = record { place = refl; size = refl; ty = refl }; life = died x.life }
 
 judged_like : (x y z : Node) → IsJudged x y → IsLikeNode y z → IsJudged x z
 judged_like x y z h k = record {
-  put = record { place = k.place ∙ h.put.place; size = k.size ∙ h.put.size };
+  put = record { place = k.place ∙ h.put.place; size = k.size ∙ h.put.size; ty = k.ty ∙ h.put.ty };
   life = elim h.life [ inl same ↦ inl (k.life ∙ same) | inr died ↦ inr (died.0, k.life ∙ died.1) ];
 }
 
@@ -197,10 +199,6 @@ judged_all kept nodes after look = record {
       judged_like (node_at nodes m) (node_at (condemn kept nodes) m) (node_at after m)
       (subst (IsJudged (node_at nodes m)) (sym (condemned_at kept nodes m)) (judged_life (has kept m) (node_at nodes m))) (look.like m);
 }
-
-prefinalised_quiet : (registrations : List Registration) → All IsQuiet (prefinalise_lines registrations)
-prefinalised_quiet [] = All-nil IsQuiet
-prefinalised_quiet (r ∷ more) = All-cons IsQuiet (L.Prefinalise r.node r.callback) (prefinalise_lines more) refl (prefinalised_quiet more)
 
 not_pause_line : (kept dead crew traced : ℕ) (walked : Bool) (n : ℕ) → L.Pause kept dead crew traced walked ≡ L.Finalise n → ⊥
 not_pause_line kept dead crew traced walked n e = cc
@@ -234,8 +232,7 @@ pause_told setup markers want old new piece lines g h =
     let both : AreJudged old.nodes new.nodes =
     subst (AreJudged old.nodes) (sym is) (subst (λ ns. AreJudged ns (paused setup mid judged_nodes).nodes) (took_nodes old h.before) judged) in
     subst (λ ls. IsPauseTold old.nodes ls new.nodes) (sym h.done.lines_are)
-    (pause_line_tells old.nodes new.nodes _ _ h.done.crew h.done.traced h.done.walked (prefinalise_lines (run_order judged_nodes mid.registrations)) both
-    (prefinalised_quiet (run_order judged_nodes mid.registrations)))
+    (pause_line_tells old.nodes new.nodes _ _ h.done.crew h.done.traced h.done.walked _ both (each_callback_line IsQuiet (λ n d. refl) (λ n c. refl) _ _))
 
 finished_tells : (setup : Setup) (want : Want) (old after new : State) (piece : List Entry) (lines : List Line) → IsSound setup old
     → IsPause setup setup.markers want old piece lines after → new ≡ answered after → Tells old lines new

@@ -133,8 +133,8 @@ map_at f (node ∷ nodes) (suc m) e = map_at f nodes m e
 pub clear_like : (dead : ℕ → Bool) (node : Node) → IsLikeNode node (clear_node dead node)
 clear_like dead node =
     cond_both (is_live node.life) (with_cleared dead node) node (IsLikeNode node)
-    (λ e. record { place = refl; size = length-cleared dead node.object.kinds node.object.values; life = refl })
-    (λ e. record { place = refl; size = refl; life = refl })
+    (λ e. record { place = refl; size = length-cleared dead node.object.kinds node.object.values; life = refl; ty = refl })
+    (λ e. record { place = refl; size = refl; life = refl; ty = refl })
 
 module _ (setup : Setup) (kept : List Bool) (nodes : List Node) (heap : IsHeap setup nodes) (follows : AllFollow nodes kept) where
   abbrev Cleared : List Node

@@ -13,10 +13,12 @@ use Rattle.gc_graph.specs.declared.line.Refusal.TheVariants as R
 use Rattle.gc_graph.specs.declared.phase.Phase.{Phase}
 use Rattle.gc_graph.specs.declared.phase.Phase.TheVariants.{Idle, Marking, Sweeping}
 use Rattle.gc_graph.specs.declared.region.Entry.{Entry}
-use Rattle.gc_graph.specs.State.{Setup, Shape, State, Registration, Node}
+use Rattle.gc_graph.specs.State.{Setup, Shape, State, Node}
 use Rattle.gc_graph.specs.Sweep.{SweepsInPhase, SweepsTo}
 use Rattle.gc_graph.specs.Outcomes.{answered, IsRefused, finalise_lines, with_entry, took}
-use Rattle.gc_graph.specs.Pause.{live_count, dead_count, run_order, prefinalise_lines, condemn, paused}
+use Rattle.gc_graph.specs.Pause.{live_count, dead_count, run_order, condemn}
+use Rattle.gc_graph.specs.WeakCalls.{weak_calls}
+use Rattle.gc_graph.specs.Paused.{paused, callback_lines}
 use Rattle.gc_graph.specs.ObjectSteps.{StepNew}
 use Rattle.gc_graph.specs.CycleSteps.{IsStart, IsPause, is_marking, is_sweeping, is_stack_refused, StepGcStart, StepGcFinish, StepGcNow, StepSweepTo}
 use Rattle.gc_graph.specs.Step.{Step}
@@ -26,6 +28,7 @@ use Rattle.gc_graph.specs.Commands.{Family, family_of}
 use Rattle.gc_graph.specs.Commands.Family.{Objects, Cycle, Sweeps, Threads}
 use Rattle.gc_graph.specs.LineKinds.{tells_that_nothing_was_done, tells_of_orders}
 use Rattle.gc_graph.specs.Families.{answers, TellsBefore, TellsAfter, StaysInFamily}
+use Rattle.gc_graph.proofs.Called.{each_callback_line}
 use Rattle.gc_graph.proofs.FamilyFrames.{steps_stay_in_their_family}
 use Rattle.gc_graph.proofs.FamilyRests.{counted_one}
 
@@ -141,18 +144,14 @@ raises_in Sweeping shape old new pages numbers h =
 sweep_raises : (shape : Shape) (old new : State) (pages : ℕ) (numbers : List ℕ) → SweepsTo shape old pages numbers new → Raises old (finalise_lines numbers) new
 sweep_raises shape old new pages numbers h = raises_in old.phase shape old new pages numbers h
 
-all_run : (registrations : List Registration) → All IsUncounted (prefinalise_lines registrations)
-all_run [] = All-nil IsUncounted
-all_run (r ∷ registrations) = All-cons IsUncounted (L.Prefinalise r.node r.callback) (prefinalise_lines registrations) (refl, refl, refl) (all_run registrations)
-
 pause_raises : (setup : Setup) (markers : ℕ) (want : Want) (old new : State) (piece : List Entry) (lines : List Line)
     → IsPause setup markers want old piece lines new → Raises old lines new
 pause_raises setup markers want old new piece lines p =
     let taken = took_same old p.before in
     let judged_nodes : List Node = condemn p.kept (took old p.before).nodes in
     let told : Line = L.Pause (live_count judged_nodes) (dead_count judged_nodes) p.done.crew p.done.traced p.done.walked in
-    let rest : List Line = prefinalise_lines (run_order judged_nodes (took old p.before).registrations) in
-    let run : All IsUncounted rest = all_run (run_order judged_nodes (took old p.before).registrations) in
+    let rest : List Line = callback_lines (weak_calls setup.types judged_nodes) (run_order judged_nodes (took old p.before).registrations) in
+    let run : All IsUncounted rest = each_callback_line IsUncounted (λ n d. (refl, refl, refl)) (λ n c. (refl, refl, refl)) _ _ in
     let one = one_more tells_pause told rest true refl in
     let none = none_counted tells_pause rest (λ k d l. (run k d l).0) in
     let no_gone = one_more tells_finalisation told rest false refl in

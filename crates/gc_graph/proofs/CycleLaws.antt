@@ -13,15 +13,16 @@ use Rattle.gc_graph.specs.declared.line.Refusal.TheVariants as R
 use Rattle.gc_graph.specs.declared.phase.Phase.{Phase}
 use Rattle.gc_graph.specs.declared.phase.Phase.TheVariants.{Idle, Marking, Sweeping}
 use Rattle.gc_graph.specs.declared.region.Entry.{Entry}
-use Rattle.gc_graph.specs.State.{Setup, State, StackWord, Node, Registration, Life, node_at, is_live, roots_of}
+use Rattle.gc_graph.specs.State.{Setup, State, StackWord, Node, Life, node_at, is_live, roots_of}
 use Rattle.gc_graph.specs.State.Life.{Live, Dead, Gone}
 use Rattle.gc_graph.specs.May.{is_hit, hits_for}
 use Rattle.gc_graph.specs.Outcomes.{finalise_lines, took, with_entry}
-use Rattle.gc_graph.specs.Pause.{dies, run_order, is_dead_at, with_cleared, clear_node, prefinalise_lines}
+use Rattle.gc_graph.specs.Pause.{dies, is_dead_at, with_cleared, clear_node}
 use Rattle.gc_graph.specs.CycleSteps.{is_marking, is_stack_refused, IsStart, IsPause, IsFinished, StepGcFinish, IsCollection, StepGcNow}
 use Rattle.gc_graph.specs.CycleLaw.{CyclesGoInOrder, IsStepTold, StepsTellWhatIsLeft, FinishCountsOnce, NowCountsOnce, HitsAreKept, ClearsLiveHolders, LastRegisteredRunsFirst}
 use Rattle.gc_graph.specs.Valid.{IsValid}
 use Rattle.gc_graph.specs.Members.{to_range, stays_in, Contains-cons_cases}
+use Rattle.gc_graph.proofs.Called.{each_callback_line}
 use Rattle.gc_graph.proofs.StepCases.{match_bool}
 use Rattle.gc_graph.proofs.ValidCases.{bool_is}
 use Rattle.gc_graph.proofs.Sound.{sound_from, valid_from}
@@ -118,10 +119,6 @@ pub others_finalised : (numbers : List ℕ) → All IsOther (finalise_lines numb
 others_finalised [] = All-nil IsOther
 others_finalised (n ∷ numbers) = All-cons IsOther (L.Finalise n) (finalise_lines numbers) refl (others_finalised numbers)
 
-pub others_run : (rs : List Registration) → All IsOther (prefinalise_lines rs)
-others_run [] = All-nil IsOther
-others_run (r ∷ rs) = All-cons IsOther (L.Prefinalise r.node r.callback) (prefinalise_lines rs) refl (others_run rs)
-
 -- of lines of which one tells a pause, what tells a pause is that one
 pub the_one : (before after : List Line) (line told : Line) → All IsOther before → All IsOther after → is_pause told ≡ true
     → Contains (before ++ line ∷ after) told → line ≡ told
@@ -148,7 +145,7 @@ counts : (setup : Setup) (markers : ℕ) (want : Want) (old new : State) (piece 
 counts setup markers want old new piece numbers lines whole live dead crew traced walked p is there =
     let told : Line = L.Pause live dead crew traced walked in
     let same =
-    the_one (finalise_lines numbers) _ _ told (others_finalised numbers) (others_run (run_order _ (took old p.before).registrations)) refl
+    the_one (finalise_lines numbers) _ _ told (others_finalised numbers) (each_callback_line IsOther (λ n d. refl) (λ n c. refl) _ _) refl
     (subst (λ ls. Contains ls told) (is ∙ ap (λ ls. finalise_lines numbers ++ ls) p.done.lines_are) there) in
     let lives = ap told_live same in
     let crews : p.done.crew ≡ crew = ap told_crew same in

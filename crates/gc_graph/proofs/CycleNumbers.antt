@@ -1,8 +1,9 @@
 -- The numbers of the lines of a collection, and of the region's and the threads' commands.
-use Rattle.std.proofs.Common.{◌≡◌, ℕ, zero, suc, ◌+◌, ◌-◌, ◌*◌, ◌^◌, ◌<◌, ◌≤◌, Bool, true, false, not, List, [], ◌∷◌, length, map, All, Some, refl, sym, ap, ◌∙◌, subst, inl, inr, arith, nat_lt, if◌then◌else◌}
+use Rattle.std.proofs.Common.{◌≡◌, ℕ, zero, suc, ◌+◌, ◌-◌, ◌*◌, ◌^◌, ◌<◌, ◌≤◌, Bool, true, false, not, List, [], ◌∷◌, length, map, get_or, All, Some, refl, sym, ap, ◌∙◌, subst, inl, inr, arith, nat_lt, if◌then◌else◌}
 use Rattle.std.specs.Prelude.{reverse}
 use Rattle.std.specs.List.{filter}
-use Rattle.std.proofs.lemmas.List.{length-map, length-reverse, get_or-reverse}
+use Rattle.std.proofs.lemmas.Bool.{cases_lt}
+use Rattle.std.proofs.lemmas.List.{length-map, length-reverse, get_or-reverse, get_or_past}
 use Rattle.std.proofs.lemmas.List.Elements.{All-nil, All-cons, All-append, All-map, All-filter}
 use Rattle.std.proofs.lemmas.List.Sums.{count_by-le-length}
 use Rattle.gc_graph.specs.declared.command.Command.{Command}
@@ -14,17 +15,20 @@ use Rattle.gc_graph.specs.declared.line.Refusal.TheVariants as R
 use Rattle.gc_graph.specs.declared.region.Entry.{Entry}
 use Rattle.gc_graph.specs.declared.region.Op.{Op}
 use Rattle.gc_graph.specs.declared.region.Op.TheVariants as O
-use Rattle.gc_graph.specs.State.{Setup, State, Node, RegionSlot, Registration, is_live, is_dead}
+use Rattle.gc_graph.specs.State.{Setup, State, ObjectType, Node, RegionSlot, Registration, no_type, is_live, is_dead}
 use Rattle.gc_graph.specs.State.RegionSlot.{Vacant, StrongTo, WeakTo}
 use Rattle.gc_graph.specs.Sweep.{SweepsToEnd}
 use Rattle.gc_graph.specs.History.{IsLegalFrom, region_slot, node_of, weak_target}
-use Rattle.gc_graph.specs.Pause.{condemn, live_count, dead_count, is_dead_at, names_dead_node, mask_of, dying_slots, dies, run_order, prefinalise_lines, entry_of_pause, paused}
+use Rattle.gc_graph.specs.Pause.{condemn, live_count, dead_count, is_dead_at, names_dead_node, mask_of, dying_slots, dies, run_order, prefinalise_lines}
+use Rattle.gc_graph.specs.WeakCalls.{WeakCall, weak_calls, weakcall_lines}
+use Rattle.gc_graph.specs.Paused.{entry_of_pause, paused}
 use Rattle.gc_graph.specs.Outcomes.{answered, IsRefused, with_entry, took, finalise_lines, slot_at, with_slot, owner_entry}
 use Rattle.gc_graph.specs.CycleSteps.{is_marking, is_sweeping, is_stack_refused, WantsMemory, IsStart, IsBegun, IsPause, IsCollection, StepGcStart, StepGcStep, StepGcFinish, StepGcNow, StepSweepTo, StepStat}
 use Rattle.gc_graph.specs.RegionSteps.{TakesOwn, IsExported, IsImported, StepExport, StepImport, line_of_content}
 use Rattle.gc_graph.specs.ReadBack.{numbers_of_op, IsOf64Bits}
 use Rattle.gc_graph.specs.NumbersLaw.{IsWithinLimits}
 use Rattle.gc_graph.specs.Condemning.{length-condemn}
+use Rattle.gc_graph.proofs.Called.{each_call}
 use Rattle.gc_graph.proofs.Sound.{IsSound}
 use Rattle.gc_graph.proofs.ValidCases.{option_is, bool_is}
 use Rattle.gc_graph.proofs.ValidHandles.{slot_is_root}
@@ -59,7 +63,7 @@ dying_small nodes region e =
     let bound : mask_of flags < room 32 = subst (λ n. mask_of flags < room n) long (mask_bound flags) in
     omega arith
 
--- ---- the prefinalizers' lines
+-- ---- the callbacks' lines
 
 all_reversed : {X : Type 0} (P : X → Type 0) (xs : List X) → All P xs → All P (reverse xs)
 all_reversed P xs h k d l =
@@ -72,7 +76,7 @@ pub record IsFewPaused (a b c : ℕ) (new : State) (lines : List Line) : Type 0 
   pub few : IsFew a b c new
   pub numbers : All IsOf64Bits lines
 
-module _ (setup : Setup) (a b c : ℕ) (small : a ≤ 1000001) (markers : ℕ) (want : Want) (old new : State) (piece : List Entry) (lines : List Line)
+module _ (setup : Setup) (limits : IsWithinLimits setup) (a b c : ℕ) (small : a ≤ 1000001) (markers : ℕ) (want : Want) (old new : State) (piece : List Entry) (lines : List Line)
     (h : IsFew a b c old) (g : IsSound setup old) (p : IsPause setup markers want old piece lines new) where
   abbrev Ready : State
   Ready = took old p.before
@@ -106,7 +110,7 @@ module _ (setup : Setup) (a b c : ℕ) (small : a ≤ 1000001) (markers : ℕ) (
         nodes_few = most;
         commands_few = entered.commands_few;
         finalised_few = entered.finalised_few;
-        words = paused_small setup.callbacks Ready.registrations p.kept Ready.nodes few_ready.words;
+        words = paused_small setup.callbacks (weak_calls setup.types Judged) (run_order Judged Ready.registrations) p.kept Ready.nodes few_ready.words;
         callbacks = All-filter (λ r. not (dies Judged r)) (λ (r : Registration). Small r.callback) Ready.registrations few_ready.callbacks;
         shared = entered.shared;
       })
@@ -121,19 +125,34 @@ module _ (setup : Setup) (a b c : ℕ) (small : a ≤ 1000001) (markers : ℕ) (
       (All-filter (dies Judged) RunSmall Ready.registrations
       (λ k d l. small_two _ _ (live_small setup a b c small Ready _ few_ready (sound_ready.registered k d l)) (few_ready.callbacks k d l))))
 
+  abbrev CallSmall : WeakCall → Type 0
+  CallSmall call = IsOf64Bits (L.WeakCall call.node call.callback)
+
+  listed_small : (t : ℕ) → All Small (get_or setup.types t no_type).weak_callbacks
+  listed_small t = elim (cases_lt t (length setup.types)) [
+    | inl low ↦ limits.weak_callbacks t no_type low
+    | inr past ↦ subst (λ (type : ObjectType). All Small type.weak_callbacks) (sym (get_or_past setup.types t no_type past)) small_none
+  ]
+
+  calls : All IsOf64Bits (weakcall_lines (weak_calls setup.types Judged))
+  calls =
+      All-map IsOf64Bits (λ (call : WeakCall). L.WeakCall call.node call.callback) (weak_calls setup.types Judged)
+      (each_call CallSmall setup.types Judged
+      (λ n low on k d l. small_two n _ (omega (arith, low, length-condemn p.kept Ready.nodes, few_ready.nodes_few, small)) (listed_small _ k d l)))
+
   pub pause_few : IsFewPaused a b c new lines
   pause_few = record {
     few = few_after;
     numbers =
         subst (All IsOf64Bits) (sym p.done.lines_are)
-        (All-cons IsOf64Bits (L.Pause (live_count Judged) (dead_count Judged) p.done.crew p.done.traced p.done.walked) (prefinalise_lines (run_order Judged Ready.registrations))
+        (All-cons IsOf64Bits (L.Pause (live_count Judged) (dead_count Judged) p.done.crew p.done.traced p.done.walked) _
         (let all = length-condemn p.kept Ready.nodes in
         let most = few_ready.nodes_few in
         let live = count_by-le-length (λ (n : Node). is_live n.life) Judged in
         let dead = count_by-le-length (λ (n : Node). is_dead n.life) Judged in
         let counted = p.done.counted in
         small_four (live_count Judged) (dead_count Judged) p.done.crew p.done.traced (omega arith) (omega arith) (omega arith) (omega arith))
-        runs);
+        (All-append IsOf64Bits (weakcall_lines (weak_calls setup.types Judged)) (prefinalise_lines (run_order Judged Ready.registrations)) calls runs));
   }
 
 -- ---- the start
@@ -215,7 +234,7 @@ module _ (setup : Setup) (limits : IsWithinLimits setup) (k : ℕ) (low : k < 10
       (λ e d. bool_is (is_stack_refused want old.stack) _ _ Good (λ e r. no R.Stack r)
       (λ e f.
       (let paused : IsFewPaused k k (16777216 * k) f.0 lines =
-      pause_few setup k k (16777216 * k) (omega arith) setup.markers want old f.0 piece lines h g f.1 in
+      pause_few setup limits k k (16777216 * k) (omega arith) setup.markers want old f.0 piece lines h g f.1 in
       good k command old new f.0 lines (paused_running setup setup.markers want old f.0 piece lines f.1) (nearly k f.0 paused.few) f.2 paused.numbers)) d)
       (λ e r. no R.Phase r) step
 
@@ -225,7 +244,7 @@ module _ (setup : Setup) (limits : IsWithinLimits setup) (k : ℕ) (low : k < 10
       let sound : IsSound setup d.swept = ended_sound setup old d.swept d.numbers g d.ended in
       let begun : IsFew k k Most d.started = start_few setup k k Most (omega arith) d.swept d.started d.first swept.few sound d.start in
       let paused : IsFewPaused k k Most d.paused d.pause_lines =
-      pause_few setup k k Most (omega arith) 0 want d.started d.paused d.second d.pause_lines begun
+      pause_few setup limits k k Most (omega arith) 0 want d.started d.paused d.second d.pause_lines begun
       (start_sound setup d.swept d.started d.first sound (ended_phase setup.shape old d.swept old.phase d.numbers refl e d.ended) d.start) d.pause in
       then_answered d.paused
       (paused_running setup 0 want d.started d.paused d.second d.pause_lines d.pause ∙ started_running setup d.swept d.started d.first d.start

@@ -17,7 +17,9 @@ use Rattle.gc_graph.specs.May.{marking}
 use Rattle.gc_graph.specs.History.{node_of, region_slot, replayed}
 use Rattle.gc_graph.specs.Replays.{replayed-append}
 use Rattle.gc_graph.specs.Sweep.{SweepsInPhase, SweepsTo}
-use Rattle.gc_graph.specs.Pause.{condemn, live_count, dead_count, run_order, prefinalise_lines, paused}
+use Rattle.gc_graph.specs.Pause.{condemn, live_count, dead_count, run_order}
+use Rattle.gc_graph.specs.WeakCalls.{weak_calls}
+use Rattle.gc_graph.specs.Paused.{paused, callback_lines}
 use Rattle.gc_graph.specs.Outcomes.{answered, IsThreadOp, finalise_lines, with_entry, took, AreOthers, slot_at, with_slot}
 use Rattle.gc_graph.specs.ObjectSteps.{with_new, StepNew}
 use Rattle.gc_graph.specs.CycleSteps.{IsStart, IsPause, is_marking, is_sweeping, is_stack_refused, StepGcStart, StepGcFinish, StepGcNow, StepSweepTo}
@@ -252,11 +254,11 @@ paused_stays setup markers want old mid after new piece second numbers lines tol
       told = record {
         before = finalise_lines numbers;
         answer = L.Pause (live_count judged_nodes) (dead_count judged_nodes) pause.done.crew pause.done.traced pause.done.walked;
-        after = prefinalise_lines (run_order judged_nodes (took mid pause.before).registrations);
+        after = callback_lines (weak_calls setup.types judged_nodes) (run_order judged_nodes (took mid pause.before).registrations);
         lines_are = is ∙ ap (λ ls. finalise_lines numbers ++ ls) pause.done.lines_are;
         first = (numbers, refl);
         fits = refl;
-        then = (run_order judged_nodes (took mid pause.before).registrations, refl);
+        then = (weak_calls setup.types judged_nodes, run_order judged_nodes (took mid pause.before).registrations, refl);
       };
     }
 

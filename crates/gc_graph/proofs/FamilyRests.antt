@@ -7,12 +7,14 @@ use Rattle.gc_graph.specs.declared.line.Line.TheVariants as L
 use Rattle.gc_graph.specs.declared.region.Entry.{Entry}
 use Rattle.gc_graph.specs.State.{State, Registration}
 use Rattle.gc_graph.specs.Outcomes.{finalise_lines}
-use Rattle.gc_graph.specs.Pause.{prefinalise_lines}
+use Rattle.gc_graph.specs.WeakCalls.{WeakCall}
+use Rattle.gc_graph.specs.Paused.{callback_lines}
 use Rattle.gc_graph.specs.Commands.{Family}
 use Rattle.gc_graph.specs.LineKinds.{tells_that_nothing_was_done, tells_of_orders}
 use Rattle.gc_graph.specs.JoinLaw.{entries_in}
 use Rattle.gc_graph.specs.Families.{answers, TellsBefore, TellsAfter, IsAnsweredOnce, StaysInFamily}
 use Rattle.gc_graph.specs.Commands.Family.{Objects, Fields, Pairs, Slots, Stack, Cycle, Sweeps, Region, Threads}
+use Rattle.gc_graph.proofs.Called.{each_callback_line}
 
 -- ---- the state
 
@@ -75,11 +77,10 @@ none_before test gone orders Sweeps told h = subst (All (Fails test)) (sym h.1) 
 none_before test gone orders Threads told h = λ i d low. orders _ (h i d low)
 none_before test gone orders family told h = no_lines test told h
 
-pub none_after : (test : Line → Bool) → ((n c : ℕ) → test (L.Prefinalise n c) ≡ false) → (family : Family) (told : List Line) → TellsAfter family told
-    → All (Fails test) told
-none_after test runs Cycle told h =
-    subst (All (Fails test)) (sym h.1) (All-map (Fails test) (λ (r : Registration). L.Prefinalise r.node r.callback) h.0 (λ i d low. runs _ _))
-none_after test runs family told h = no_lines test told h
+pub none_after : (test : Line → Bool) → ((n d : ℕ) → test (L.WeakCall n d) ≡ false) → ((n c : ℕ) → test (L.Prefinalise n c) ≡ false) → (family : Family)
+    (told : List Line) → TellsAfter family told → All (Fails test) told
+none_after test weak runs Cycle told h = subst (All (Fails test)) (sym h.2) (each_callback_line (Fails test) weak runs h.0 h.1)
+none_after test weak runs family told h = no_lines test told h
 
 -- ---- entries
 
@@ -87,9 +88,10 @@ finalises_told : (numbers : List ℕ) (rest : List Line) → entries_in (finalis
 finalises_told [] rest = refl
 finalises_told (n ∷ numbers) rest = finalises_told numbers rest
 
-prefinalises_told : (registrations : List Registration) → entries_in (prefinalise_lines registrations) ≡ []
-prefinalises_told [] = refl
-prefinalises_told (r ∷ registrations) = prefinalises_told registrations
+callbacks_told : (calls : List WeakCall) (registrations : List Registration) → entries_in (callback_lines calls registrations) ≡ []
+callbacks_told [] [] = refl
+callbacks_told [] (r ∷ registrations) = callbacks_told [] registrations
+callbacks_told (c ∷ calls) registrations = callbacks_told calls registrations
 
 entry_answers_none : (family : Family) (entry : Entry) → answers family (L.Entry entry) ≡ false
 entry_answers_none Objects entry = refl
@@ -109,7 +111,7 @@ before_told Threads told rest other h = absurd (other refl)
 before_told family told rest other h = ap (λ ls. entries_in (ls ++ rest)) h
 
 after_told : (family : Family) (told : List Line) → TellsAfter family told → entries_in told ≡ []
-after_told Cycle told h = ap entries_in h.1 ∙ prefinalises_told h.0
+after_told Cycle told h = ap entries_in h.2 ∙ callbacks_told h.0 h.1
 after_told family told h = ap entries_in h
 
 -- only commands on threads tell entries

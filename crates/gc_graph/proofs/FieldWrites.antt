@@ -61,7 +61,7 @@ typed_with setup bound node values t v = record {
 }
 
 pub like_with : (node : Node) (values : List Value) → length values ≡ length node.object.values → IsLikeNode node (with_values node values)
-like_with node values e = record { place = refl; size = e; life = refl }
+like_with node values e = record { place = refl; size = e; life = refl; ty = refl }
 
 module _ (setup : Setup) (bound : ℕ) (node : Node) (f : ℕ) (typed : IsTyped setup bound node) where
   pub one_typed : (value : Value) → Suits (IsReferenceBelow bound) (IsReferenceBelow bound) IsPlainWord (kind_of_field node.object f) value

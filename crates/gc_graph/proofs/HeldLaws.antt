@@ -15,7 +15,7 @@ use Rattle.gc_graph.proofs.PurePages.{IsExtentOf, node_of_extent, page_is_used}
 
 -- ---- sums over the items of a list, by their numbers
 
-up_range : (n : ℕ) → IsStrictlyIncreasing (range_with_len 0 n)
+pub up_range : (n : ℕ) → IsStrictlyIncreasing (range_with_len 0 n)
 up_range n k low =
     let whole = length-range_with_len 0 n in
     let one = get_or-range_with_len 0 n k 0 (omega (arith, low, whole)) in

@@ -1,5 +1,6 @@
 -- What the last line of each command means.
-use Rattle.std.proofs.Common.{◌≡◌, ◌≢◌, ◌-◌, ◌+◌, ◌<◌, ℕ, Bool, true, List, [], ◌∷◌, ◌++◌, length, Option, Some, None, refl, sym, ap, ◌∙◌, subst, inl, inr, arith, Contains, nat_lt, min, set as slice_set}
+use Rattle.std.proofs.Common.{◌≡◌, ◌≢◌, ◌-◌, ◌+◌, ◌<◌, ℕ, Bool, true, List, [], ◌∷◌, ◌++◌, length, Option, Some, None, refl, sym, ap, ◌∙◌, subst, inl, inr, arith, All, Contains, nat_lt, min, set as slice_set}
+use Rattle.std.proofs.lemmas.List.Elements.{All-head, All-tail}
 use Rattle.std.specs.Prelude.{slice_get, MatchOption}
 use Rattle.std.proofs.lemmas.List.{length-append}
 use Rattle.gc_graph.specs.declared.command.Command.{Command}
@@ -16,8 +17,9 @@ use Rattle.gc_graph.specs.declared.region.Entry.{Entry}
 use Rattle.gc_graph.specs.State.{Setup, State, Node, Registration}
 use Rattle.gc_graph.specs.Fields.{content_of, is_reference, is_pair, is_plain}
 use Rattle.gc_graph.specs.May.{read_node}
-use Rattle.gc_graph.specs.Pause.{prefinalise_lines, run_order, condemn}
 use Rattle.gc_graph.specs.Outcomes.{answered, IsRefused, finalise_lines, slot_at, weak_slot_at, with_slot, took}
+use Rattle.gc_graph.specs.WeakCalls.{WeakCall}
+use Rattle.gc_graph.specs.Paused.{callback_lines}
 use Rattle.gc_graph.specs.ObjectSteps.{AtField, IsRead, IsNumber, IsFull, IsMade, part_of}
 use Rattle.gc_graph.specs.CycleSteps.{is_marking, is_sweeping, is_stack_refused, WantsMemory, IsBegun, IsTraced, IsFinished, IsCollection, StepGcStart, StepGcStep, StepGcFinish, StepGcNow, StepSweepTo, HasSwept}
 use Rattle.gc_graph.specs.History.{node_of, region_slot}
@@ -26,6 +28,7 @@ use Rattle.gc_graph.specs.Step.{Step}
 use Rattle.gc_graph.specs.ClearingLaw.{first_held, second_held}
 use Rattle.gc_graph.specs.RefusalLaw.{IsLeftAlone, IsLeftFull}
 use Rattle.gc_graph.specs.HandleLaw.{IsLast, IsTurnedDown, IsFieldOf, IsWritten, IsHeld, with_field, with_parts, reads_weakly, LeavesSlots, MeansDone, MeansRead, MeansWord, MeansNew, MeansCycle, Means, LastLinesMean, IsShared, IsTakenBack}
+use Rattle.gc_graph.proofs.Called.{each_callback_line}
 use Rattle.gc_graph.proofs.StepCases.{match_bool}
 use Rattle.gc_graph.proofs.ValidCases.{IsFound, field_is, option_is}
 use Rattle.gc_graph.proofs.StepFrames.{keeps_sweep}
@@ -168,13 +171,17 @@ module _ (setup : Setup) (old new : State) (command : Command) (piece : List Ent
   -- ---- the pause
 
   -- a line of a pause means that it was done
-  paused_line : (Done : Type 0) (before : List Line) (told : Line) (registrations : List Registration)
-      → lines ≡ before ++ told ∷ prefinalise_lines registrations → MeansCycle setup old command piece new Done told → Done
+  paused_line : (Done : Type 0) (before : List Line) (told : Line) (rest : List Line)
+      → lines ≡ before ++ told ∷ rest → MeansCycle setup old command piece new Done told → All (MeansCycle setup old command piece new Done) rest
       → MeansCycle setup old command piece new Done line
-  paused_line Done before told [] is means d = subst (MeansCycle setup old command piece new Done) (sym (end_last before told line lines is last)) means
-  paused_line Done before told (r ∷ registrations) is means d =
-      paused_line Done (before ++ told ∷ []) (L.Prefinalise r.node r.callback) registrations
-      (is ∙ append_one before told (L.Prefinalise r.node r.callback ∷ prefinalise_lines registrations)) d d
+  paused_line Done before told [] is means all = subst (MeansCycle setup old command piece new Done) (sym (end_last before told line lines is last)) means
+  paused_line Done before told (next ∷ rest) is means all =
+      paused_line Done (before ++ told ∷ []) next rest (is ∙ append_one before told (next ∷ rest))
+      (All-head (MeansCycle setup old command piece new Done) next rest all) (All-tail (MeansCycle setup old command piece new Done) next rest all)
+
+  ran_lines : (Done : Type 0) (calls : List WeakCall) (registrations : List Registration) → Done
+      → All (MeansCycle setup old command piece new Done) (callback_lines calls registrations)
+  ran_lines Done calls registrations d = each_callback_line (MeansCycle setup old command piece new Done) (λ n c. d) (λ n c. d) calls registrations
 
   finishes : (want : Want) → StepGcFinish setup want old piece lines new
       → MeansCycle setup old command piece new (IsFinished setup want old piece lines new) line
@@ -183,7 +190,7 @@ module _ (setup : Setup) (old new : State) (command : Command) (piece : List Ent
       let Q : Type 0 = MeansCycle setup old command piece new Done line in
       match_bool (is_marking old.phase) _ _ Q
       (λ d. match_bool (is_stack_refused want old.stack) _ _ Q (λ r. turned Done R.Stack r.1)
-      (λ f. paused_line Done [] _ (run_order (condemn f.1.kept (took old f.1.before).nodes) (took old f.1.before).registrations) f.1.done.lines_are f f) d)
+      (λ f. paused_line Done [] _ _ f.1.done.lines_are f (ran_lines Done _ _ f)) d)
       (λ r. turned Done R.Phase r.1) h
 
   collects : (want : Want) → StepGcNow setup want old piece lines new
@@ -196,9 +203,8 @@ module _ (setup : Setup) (old new : State) (command : Command) (piece : List Ent
       (λ e. elim e [
         | inl w ↦ wanted Done w
         | inr c ↦
-            paused_line Done (finalise_lines c.numbers) _
-            (run_order (condemn c.pause.kept (took c.started c.pause.before).nodes) (took c.started c.pause.before).registrations)
-            (c.lines_are ∙ ap (λ ls. finalise_lines c.numbers ++ ls) c.pause.done.lines_are) c c
+            paused_line Done (finalise_lines c.numbers) _ _
+            (c.lines_are ∙ ap (λ ls. finalise_lines c.numbers ++ ls) c.pause.done.lines_are) c (ran_lines Done _ _ c)
       ]) d) h
 
   -- ---- the region

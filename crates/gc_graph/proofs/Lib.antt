@@ -27,6 +27,7 @@ mod PlainSteps
 mod PlainFrames
 mod FamilyFrames
 mod FamilyRests
+mod Called
 mod Condemned
 mod Prefinalising
 mod AccessLaws
@@ -42,7 +43,9 @@ mod FirstReasons
 mod CountedLines
 mod PauseCounts
 mod ClearingLaws
+mod PauseRuns
 mod PrefinalizerLaws
+mod WeakCallLaws
 mod AnswersLaws
 mod ActionsStay
 mod ActionWrites
@@ -97,6 +100,7 @@ mod SummaryNumbers
 mod Scripts
 mod SaidNumbers
 mod AllowedForms
+mod TypeLists
 mod SaidWords
 mod OwnForms
 mod SaidThreads

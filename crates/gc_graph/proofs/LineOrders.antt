@@ -10,12 +10,12 @@ use Rattle.gc_graph.specs.declared.line.Refusal.{Refusal}
 use Rattle.gc_graph.specs.declared.region.Entry.{Entry}
 use Rattle.gc_graph.specs.State.{Setup, State}
 use Rattle.gc_graph.specs.Outcomes.{IsRefused, finalise_lines}
-use Rattle.gc_graph.specs.Pause.{prefinalise_lines}
 use Rattle.gc_graph.specs.CycleSteps.{is_marking, is_stack_refused, StepGcStart, StepGcFinish}
 use Rattle.gc_graph.specs.Step.{Step}
 use Rattle.gc_graph.specs.LineOrderLaw.{tells_finalised, AreFinalisedFirst, FinalisedAreToldFirst}
 use Rattle.gc_graph.specs.Commands.{may_sweep, may_tell_more, Family, family_of}
 use Rattle.gc_graph.specs.LineKinds.{tells_that_nothing_was_done, tells_of_orders}
+use Rattle.gc_graph.proofs.Called.{each_callback_line}
 use Rattle.gc_graph.proofs.StepCases.{match_bool}
 use Rattle.gc_graph.specs.declared.line.Refusal.TheVariants as R
 use Rattle.gc_graph.specs.Families.{answers, AreFinalised, TellsAfter, IsAnsweredOnce}
@@ -85,7 +85,7 @@ order_other (L.Finalise n) is = absurd (true≢false (sym is))
 order_other other is = refl
 
 after_other : (family : Family) (told : List Line) → TellsAfter family told → All IsOther told
-after_other family told h = none_after tells_finalised (λ n c. refl) family told h
+after_other family told h = none_after tells_finalised (λ n d. refl) (λ n c. refl) family told h
 
 -- a command whose family tells one line
 tells_alone : (command : Command) (lines : List Line) → tells_one (family_of command) ≡ true → IsAnsweredOnce (family_of command) lines → AreFinalisedFirst command lines
@@ -107,7 +107,7 @@ finish_lines setup want old new piece lines h =
     match_bool (is_marking old.phase) _ _ _
     (λ rest. match_bool (is_stack_refused want old.stack) _ _ _ (λ r. refused (C.GcFinish want) old new lines R.Stack r.1)
     (λ f. others (C.GcFinish want) lines refl (subst (All IsOther) (sym f.1.done.lines_are)
-    (All-cons IsOther _ (prefinalise_lines _) refl (after_other Cycle (prefinalise_lines _) (_, refl))))) rest)
+    (All-cons IsOther _ _ refl (each_callback_line IsOther (λ n d. refl) (λ n c. refl) _ _)))) rest)
     (λ r. refused (C.GcFinish want) old new lines R.Phase r.1) h
 
 join_lines : (lines : List Line) → IsAnsweredOnce Threads lines → AreFinalisedFirst C.ThreadsJoin lines

@@ -26,10 +26,11 @@ event_of (L.Pause kept dead crew traced walked) = Pausing
 event_of (L.Node n) = Reading n
 event_of said = Nothing
 
--- the node has its words where it had them
+-- the node has its words where it had them, and its type
 pub record StaysPut (x y : Node) : Type 0 where
   pub place : y.place ≡ x.place
   pub size : length y.object.values ≡ length x.object.values
+  pub ty : y.object.ty ≡ x.object.ty
 
 pub record IsMadeBy (old : List Node) (n a : ℕ) (new : List Node) : Type 0 where
   pub number : n ≡ length old
@@ -79,13 +80,13 @@ AreTold old (said ∷ lines) new = IsTold old said (λ mid. AreTold mid lines ne
 -- ---- where the words lie
 
 put_like : (x y : Node) → IsLikeNode x y → StaysPut x y
-put_like x y h = record { place = h.place; size = h.size }
+put_like x y h = record { place = h.place; size = h.size; ty = h.ty }
 
 pub put_same : (x : Node) → StaysPut x x
-put_same x = record { place = refl; size = refl }
+put_same x = record { place = refl; size = refl; ty = refl }
 
 put_more : (x y z : Node) → StaysPut x y → StaysPut y z → StaysPut x z
-put_more x y z h k = record { place = k.place ∙ h.place; size = k.size ∙ h.size }
+put_more x y z h k = record { place = k.place ∙ h.place; size = k.size ∙ h.size; ty = k.ty ∙ h.ty }
 
 -- ---- one event
 

@@ -14,10 +14,12 @@ use Rattle.gc_graph.specs.State.{Setup, Shape, State, Node, no_node, Life, Regis
 use Rattle.gc_graph.specs.State.Life.{Live, Dead, Gone}
 use Rattle.gc_graph.specs.Fields.{new_node}
 use Rattle.gc_graph.specs.Sweep.{SweepsInPhase, SweepsTo}
-use Rattle.gc_graph.specs.Actions.{shown_words, action_of, cleared_field, added_field, cleared_at, added_at, linked, change_linked, acted}
+use Rattle.gc_graph.specs.Actions.{cleared_field, added_field, cleared_at, added_at, linked, change_linked, acted}
 use Rattle.gc_graph.specs.Outcomes.{finalise_lines}
-use Rattle.gc_graph.specs.Pause.{judged, condemn, with_cleared, clear_node, clear_fields, is_dead_at, kind_of_callback, prefinalised}
+use Rattle.gc_graph.specs.Pause.{judged, condemn, with_cleared, clear_node, clear_fields, is_dead_at, prefinalised}
+use Rattle.gc_graph.specs.WeakCalls.{WeakCall, called}
 use Rattle.gc_graph.specs.NodeNumbers.{dead_below}
+use Rattle.gc_graph.proofs.Called.{callbacks_keep}
 use Rattle.gc_graph.proofs.NodeWrites.{IsLikeNode, LookSame}
 use Rattle.gc_graph.proofs.Lives.{IsBuried, AreTold}
 use Rattle.gc_graph.proofs.StepLives.{sweep_told}
@@ -101,20 +103,13 @@ cleared_weights dead (x ∷ nodes) =
     ap (λ life. (if is_there life then 1 else 0) ∷ weights (map (clear_node dead) nodes)) (life_either (is_live x.life) (with_cleared dead x) x refl)
     ∙ ap (λ rest. weight x ∷ rest) (cleared_weights dead nodes)
 
-prefinalised_weights : (callbacks : List ActionKind) (registrations : List Registration) (nodes : List Node)
-    → weights (prefinalised callbacks registrations nodes) ≡ weights nodes
-prefinalised_weights callbacks [] nodes = refl
-prefinalised_weights callbacks (r ∷ more) nodes =
-    let action : Action = action_of (kind_of_callback callbacks r.callback) (shown_words (node_at nodes r.node)) in
-    prefinalised_weights callbacks more (acted nodes r.node action) ∙ acted_weights nodes r.node action
-
--- condemned, cleared, and then changed by prefinalizers
-pub paused_weights : (callbacks : List ActionKind) (registrations : List Registration) (kept : List Bool) (nodes : List Node)
-    → weights (prefinalised callbacks registrations (clear_fields (condemn kept nodes))) ≡ weights nodes
-paused_weights callbacks registrations kept nodes =
-    prefinalised_weights callbacks registrations (clear_fields (condemn kept nodes))
-    ∙ cleared_weights (is_dead_at (condemn kept nodes)) (condemn kept nodes)
-    ∙ condemned_weights kept nodes
+-- condemned, cleared, and then changed by callbacks
+pub paused_weights : (callbacks : List ActionKind) (calls : List WeakCall) (registrations : List Registration) (kept : List Bool) (nodes : List Node)
+    → weights (prefinalised callbacks registrations (called callbacks calls (clear_fields (condemn kept nodes)))) ≡ weights nodes
+paused_weights callbacks calls registrations kept nodes =
+    callbacks_keep (λ ns. weights ns ≡ weights nodes) (λ ns n action so_far. acted_weights ns n action ∙ so_far) callbacks calls registrations
+    (clear_fields (condemn kept nodes))
+    (cleared_weights (is_dead_at (condemn kept nodes)) (condemn kept nodes) ∙ condemned_weights kept nodes)
 
 -- ---- a new node
 
@@ -142,7 +137,7 @@ buried_look nodes after n h = record {
     | inl same ↦
         subst (λ k. IsLikeNode (node_at (set nodes n (gone_at nodes n)) k) (node_at after k)) (sym same)
         (subst (λ x. IsLikeNode x (node_at after n)) (sym (get_or-set_same nodes n (gone_at nodes n) no_node (dead_below nodes n h.dead)))
-        (record { place = h.put.place; size = h.put.size; life = h.gone }))
+        (record { place = h.put.place; size = h.put.size; life = h.gone; ty = h.put.ty }))
     | inr other ↦
         subst (λ x. IsLikeNode x (node_at after m)) (sym (get_or-set_other nodes n m (gone_at nodes n) no_node other)) (h.others m other)
   ];

@@ -25,12 +25,13 @@ pub record IsLikeNode (x y : Node) : Type 0 where
   pub place : y.place ≡ x.place
   pub size : length y.object.values ≡ length x.object.values
   pub life : y.life ≡ x.life
+  pub ty : y.object.ty ≡ x.object.ty
 
 pub like_same : (x : Node) → IsLikeNode x x
-like_same x = record { place = refl; size = refl; life = refl }
+like_same x = record { place = refl; size = refl; life = refl; ty = refl }
 
 pub like_more : (x y z : Node) → IsLikeNode x y → IsLikeNode y z → IsLikeNode x z
-like_more x y z h k = record { place = k.place ∙ h.place; size = k.size ∙ h.size; life = k.life ∙ h.life }
+like_more x y z h k = record { place = k.place ∙ h.place; size = k.size ∙ h.size; life = k.life ∙ h.life; ty = k.ty ∙ h.ty }
 
 pub placed_from : (x y : Node) → IsLikeNode x y → IsPlaced x y
 placed_from x y h = record { place = h.place; size = h.size; there = λ e. ap is_there (sym h.life) ∙ e }

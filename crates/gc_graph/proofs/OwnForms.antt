@@ -7,8 +7,7 @@ use Rattle.gc_graph.specs.declared.command.Command.{Command}
 use Rattle.gc_graph.specs.declared.command.Command.TheVariants as C
 use Rattle.gc_graph.specs.declared.command.Want.{Want}
 use Rattle.gc_graph.specs.Words.{is_text}
-use Rattle.gc_graph.specs.Forms.{Place, Row, row, Form, none, one, two, three, new_command, set_command, pair_command, sweep_command, by_want, rows, gc_rows, row_named, form_after_gc, plain_form, gc_form}
-use Rattle.gc_graph.specs.Forms.Form.{Known}
+use Rattle.gc_graph.specs.Forms.{Row, row, Form, none, one, two, three, new_command, set_command, pair_command, sweep_command, by_want, rows, gc_rows, row_named, form_after_gc, plain_form, gc_form}
 use Rattle.gc_graph.specs.Reasons.{command_by}
 use Rattle.gc_graph.specs.ThreadLaw.{is_of_threads}
 
@@ -110,9 +109,8 @@ after_gc_own [] words c e = absurd (none-some c e)
 after_gc_own (second ∷ rest) words c e =
     gc_own (length rest) (row_named second gc_rows) (chosen second gc_rows (own_gc_rows second)) words c e
 
-pub form_own : (a b at : Bool) (types : List Place) (gc order plain : Form) → at ≡ false → IsOwnForm gc → IsOwnForm plain
-    → IsOwnForm (cond a (Known types (λ numbers. None)) (cond b gc (cond at order plain)))
-form_own true b at types gc order plain out x y words c e = absurd (none-some c e)
-form_own false true at types gc order plain out x y words c e = x words c e
-form_own false false true types gc order plain out x y words c e = absurd (true≢false out)
-form_own false false false types gc order plain out x y words c e = y words c e
+pub form_own : (b at : Bool) (gc order plain : Form) → at ≡ false → IsOwnForm gc → IsOwnForm plain
+    → IsOwnForm (cond b gc (cond at order plain))
+form_own true at gc order plain out x y words c e = x words c e
+form_own false true gc order plain out x y words c e = absurd (true≢false out)
+form_own false false gc order plain out x y words c e = y words c e

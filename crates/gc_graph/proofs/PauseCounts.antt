@@ -14,16 +14,18 @@ use Rattle.gc_graph.specs.State.Life.{Live, Dead, Gone}
 use Rattle.gc_graph.specs.Sweep.{buried, finalise, SweepsInPhase}
 use Rattle.gc_graph.specs.Outcomes.{finalise_lines, took}
 use Rattle.gc_graph.specs.Pause.{condemn, live_count, dead_count, run_order}
+use Rattle.gc_graph.specs.WeakCalls.{weak_calls}
 use Rattle.gc_graph.specs.CycleSteps.{is_marking, IsPause}
 use Rattle.gc_graph.specs.Valid.{IsSettled}
 use Rattle.gc_graph.specs.CountsLaw.{AreJudged, PausesCountNodes}
+use Rattle.gc_graph.proofs.Called.{each_callback_line}
 use Rattle.gc_graph.proofs.Sound.{IsSound, sound_from}
 use Rattle.gc_graph.proofs.NodeWrites.{LookSame}
 use Rattle.gc_graph.proofs.NodeCounts.{same_count, paused_weights}
 use Rattle.gc_graph.proofs.ValidRegion.{took_nodes}
 use Rattle.gc_graph.proofs.ValidCycles.{collection_begins}
 use Rattle.gc_graph.proofs.Collections.{paused_look}
-use Rattle.gc_graph.proofs.CycleLaws.{others_finalised, others_run, the_one, finish_told, now_told}
+use Rattle.gc_graph.proofs.CycleLaws.{IsOther, others_finalised, the_one, finish_told, now_told}
 
 -- ---- counts of lives
 
@@ -100,7 +102,7 @@ judges setup markers want old new piece numbers lines whole kept dead crew trace
     let mid : State = took old p.before in
     let nodes : List Node = condemn p.kept mid.nodes in
     let line : L.Pause (live_count nodes) (dead_count nodes) p.done.crew p.done.traced p.done.walked ≡ told =
-    the_one (finalise_lines numbers) _ _ told (others_finalised numbers) (others_run (run_order nodes mid.registrations)) refl
+    the_one (finalise_lines numbers) _ _ told (others_finalised numbers) (each_callback_line IsOther (λ n d. refl) (λ n c. refl) _ _) refl
     (subst (λ ls. Contains ls told) (is ∙ ap (λ ls. finalise_lines numbers ++ ls) p.done.lines_are) there) in
     let lives : live_count nodes ≡ kept = cc in
     let deaths : dead_count nodes ≡ dead = cc in
@@ -110,7 +112,7 @@ judges setup markers want old new piece numbers lines whole kept dead crew trace
     let dead_after : dead_count new.nodes ≡ dead_count nodes = look_count is_dead nodes new.nodes look in
     let there_after : objects_of new.nodes ≡ objects_of mid.nodes =
     ap (λ (s : State). objects_of s.nodes) p.done.after
-    ∙ (same_count mid.nodes _ (paused_weights setup.callbacks (run_order nodes mid.registrations) p.kept mid.nodes)).there in
+    ∙ (same_count mid.nodes _ (paused_weights setup.callbacks (weak_calls setup.types nodes) (run_order nodes mid.registrations) p.kept mid.nodes)).there in
     let before : objects_of mid.nodes ≡ objects_of old.nodes = ap objects_of (took_nodes old p.before) in
     let none : dead_count old.nodes ≡ 0 = none_dead old.nodes (settled_marking setup old g on) in
     record {

@@ -46,7 +46,7 @@ nothing_before Threads = All-nil _
 nothing_before family = refl
 
 pub nothing_after : (family : Family) → TellsAfter family []
-nothing_after Cycle = ([], refl)
+nothing_after Cycle = ([], [], refl)
 nothing_after family = refl
 
 -- ---- forms of answers

@@ -1,5 +1,5 @@
--- What the prefinalizers of a pause leave of the nodes.
-use Rattle.std.proofs.Common.{◌≡◌, ℕ, ◌+◌, ◌<◌, ◌≤◌, true, List, [], ◌∷◌, length, get_or, set, All, Option, Some, None, refl, sym, ap, ◌∙◌, subst, inl, inr, arith, nat_lt}
+-- What the callbacks of a pause leave of the nodes.
+use Rattle.std.proofs.Common.{◌≡◌, ℕ, ◌+◌, ◌<◌, ◌≤◌, true, List, length, get_or, set, All, Option, Some, None, refl, sym, ap, ◌∙◌, subst, inl, inr, arith, nat_lt}
 use Rattle.std.proofs.lemmas.Bool.{cases_lt, cond_both}
 use Rattle.std.proofs.lemmas.List.{set_past}
 use Rattle.std.proofs.lemmas.List.Elements.{All-set}
@@ -12,12 +12,14 @@ use Rattle.gc_graph.specs.declared.kind.Value.{Value}
 use Rattle.gc_graph.specs.declared.kind.Value.TheVariants.{Null, Ref, Word}
 use Rattle.gc_graph.specs.State.{Setup, Node, Registration, no_node, node_at}
 use Rattle.gc_graph.specs.Fields.{kind_of_field, word_of_field, value_at, with_value, field_count, is_pair}
-use Rattle.gc_graph.specs.Actions.{cleared_field, added, added_field, cleared_at, added_at, linked, change_linked, acted, action_of, shown_words}
-use Rattle.gc_graph.specs.Pause.{kind_of_callback, prefinalised}
+use Rattle.gc_graph.specs.Actions.{cleared_field, added, added_field, cleared_at, added_at, linked, change_linked, acted}
+use Rattle.gc_graph.specs.Pause.{prefinalised}
+use Rattle.gc_graph.specs.WeakCalls.{WeakCall, called}
 use Rattle.gc_graph.specs.Valid.{IsTyped, NamesLive, IsReferenceBelow, IsPlainWord}
 use Rattle.gc_graph.proofs.Shapes.{word_at, word_at_is, Suits, read_one, IsPairBelow, typed_from}
 use Rattle.gc_graph.proofs.Sound.{IsHeap}
 use Rattle.gc_graph.proofs.NodeWrites.{IsLikeNode, like_same, LookSame, look_same, look_more, look_written, heap_written}
+use Rattle.gc_graph.proofs.Called.{callbacks_keep}
 use Rattle.gc_graph.proofs.FieldWrites.{with_values, one_typed, pair_typed, one_like, pair_like}
 
 -- the node became one that names no more than it did
@@ -151,12 +153,10 @@ acted_kept setup nodes dying (A.Clear link field) heap =
 acted_kept setup nodes dying (A.Add link field amount) heap =
     change_kept setup nodes (linked (node_at nodes dying) link) (λ node. added_at node field amount) heap (λ node. added_at_gentle setup nodes node field amount)
 
-pub prefinalised_kept : (setup : Setup) (callbacks : List ActionKind) (registrations : List Registration) (nodes : List Node) → IsHeap setup nodes
-    → StaysInOrder setup nodes (prefinalised callbacks registrations nodes)
-prefinalised_kept setup callbacks [] nodes heap = kept_same setup nodes heap
-prefinalised_kept setup callbacks (r ∷ more) nodes heap =
-    let action : Action = action_of (kind_of_callback callbacks r.callback) (shown_words (node_at nodes r.node)) in
-    let one : StaysInOrder setup nodes (acted nodes r.node action) = acted_kept setup nodes r.node action heap in
-    let rest : StaysInOrder setup (acted nodes r.node action) (prefinalised callbacks more (acted nodes r.node action)) =
-    prefinalised_kept setup callbacks more (acted nodes r.node action) one.heap in
-    record { heap = rest.heap; look = look_more nodes (acted nodes r.node action) (prefinalised callbacks more (acted nodes r.node action)) one.look rest.look }
+pub callbacks_kept : (setup : Setup) (callbacks : List ActionKind) (calls : List WeakCall) (registrations : List Registration) (nodes : List Node)
+    → IsHeap setup nodes → StaysInOrder setup nodes (prefinalised callbacks registrations (called callbacks calls nodes))
+callbacks_kept setup callbacks calls registrations nodes heap =
+    callbacks_keep (StaysInOrder setup nodes)
+    (λ ns n action so_far. (let one : StaysInOrder setup ns (acted ns n action) = acted_kept setup ns n action so_far.heap in
+    record { heap = one.heap; look = look_more nodes ns (acted ns n action) so_far.look one.look }))
+    callbacks calls registrations nodes (kept_same setup nodes heap)

@@ -65,6 +65,7 @@ first_part (L.Word n) = Name (codes "word")
 first_part L.Started = Name (codes "started")
 first_part (L.Step t done) = Name (codes "step")
 first_part (L.Pause kept dead crew traced walked) = Name (codes "pause")
+first_part (L.WeakCall k d) = Name (codes "weakcall")
 first_part (L.Prefinalise k c) = Name (codes "prefinalise")
 first_part (L.Finalise k) = Name (codes "finalise")
 first_part (L.Swept c) = Name (codes "swept")
@@ -93,6 +94,7 @@ rest_parts (L.Step t done) = Name (codes "traced") ∷ Count t ∷ name_of_step 
 rest_parts (L.Pause kept dead crew traced walked) =
     Name (codes "kept") ∷ Count kept ∷ Name (codes "dead") ∷ Count dead ∷ Name (codes "crew") ∷ Count crew
     ∷ Name (codes "traced") ∷ Count traced ∷ Name (codes "walked") ∷ Count (bit walked) ∷ []
+rest_parts (L.WeakCall k d) = Count k ∷ Count d ∷ []
 rest_parts (L.Prefinalise k c) = Count k ∷ Count c ∷ []
 rest_parts (L.Finalise k) = Count k ∷ []
 rest_parts (L.Swept c) = Name (codes "to") ∷ Count c ∷ []
@@ -184,6 +186,7 @@ text_of (L.Step t true) = simp append_assoc
 text_of (L.Step t false) = simp append_assoc
 text_of (L.Pause kept dead crew traced true) = simp (append_assoc, decimal_digit 1 (omega arith))
 text_of (L.Pause kept dead crew traced false) = simp (append_assoc, decimal_digit 0 (omega arith))
+text_of (L.WeakCall k d) = simp append_assoc
 text_of (L.Prefinalise k c) = simp append_assoc
 text_of (L.Finalise k) = refl
 text_of (L.Swept c) = refl
@@ -256,6 +259,7 @@ all_names L.Started = refl
 all_names (L.Step t true) = refl
 all_names (L.Step t false) = refl
 all_names (L.Pause kept dead crew traced walked) = refl
+all_names (L.WeakCall k d) = refl
 all_names (L.Prefinalise k c) = refl
 all_names (L.Finalise k) = refl
 all_names (L.Swept c) = refl
@@ -319,6 +323,7 @@ all_counts (L.Step t done) h = subst AreSmall (sym (step_counts t done)) h
 all_counts (L.Pause kept dead crew traced walked) h =
     All-append (λ n. n < 2 ^ 64) (kept ∷ dead ∷ crew ∷ traced ∷ []) (bit walked ∷ []) h
     (All-cons (λ n. n < 2 ^ 64) (bit walked) [] (bit_small walked) (All-nil (λ n. n < 2 ^ 64)))
+all_counts (L.WeakCall k d) h = h
 all_counts (L.Prefinalise k c) h = h
 all_counts (L.Finalise k) h = h
 all_counts (L.Swept c) h = h
@@ -401,6 +406,7 @@ told (L.Step t true) = refl
 told (L.Step t false) = refl
 told (L.Pause kept dead crew traced true) = refl
 told (L.Pause kept dead crew traced false) = refl
+told (L.WeakCall k d) = refl
 told (L.Prefinalise k c) = refl
 told (L.Finalise k) = refl
 told (L.Swept c) = refl

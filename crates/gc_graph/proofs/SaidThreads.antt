@@ -11,7 +11,7 @@ use Rattle.gc_graph.specs.declared.command.Command.TheVariants as C
 use Rattle.gc_graph.specs.declared.command.Order.{Order}
 use Rattle.gc_graph.specs.declared.command.Order.TheVariants as Q
 use Rattle.gc_graph.specs.Words.{is_text}
-use Rattle.gc_graph.specs.Forms.{Row, row, none, one, threads_command, order_of_none, order_of_one, order_of_two, rows, at_rows, row_named, places_of, form_after_gc, form_after_at, plain_form, at_form, type_places}
+use Rattle.gc_graph.specs.Forms.{Row, row, none, one, threads_command, order_of_none, order_of_one, order_of_two, rows, at_rows, row_named, places_of, form_after_gc, form_after_at, plain_form, at_form}
 use Rattle.gc_graph.specs.Forms.Place.{Either}
 use Rattle.gc_graph.specs.Reasons.{Bounds, command_by, command_of_words}
 use Rattle.gc_graph.specs.Script.{is_order, is_go, is_join}
@@ -117,12 +117,12 @@ threads_line word false true g j one =
     inr (inr (inl (record { no_order = refl; no_go = g; is = j; says = ap (λ b. threads_command ((cond b 0 1) ∷ [])) g })))
 threads_line word false false g j one = absurd (true≢false (sym one))
 
-threads_say : (bounds : Bounds) (rest : List (List ℕ)) → AreFaultless bounds (codes "threads" ∷ rest)
+threads_say : (version : ℕ) (bounds : Bounds) (rest : List (List ℕ)) → AreFaultless version bounds (codes "threads" ∷ rest)
     → IsLine (codes "threads" ∷ rest) (command_of_words (codes "threads" ∷ rest))
-threads_say bounds [] f = absurd (true≢false f.count)
-threads_say bounds (word ∷ []) f =
+threads_say version bounds [] f = absurd (true≢false f.count)
+threads_say version bounds (word ∷ []) f =
     threads_line word _ _ refl refl (not-false _ (or_parts _ false f.known).0)
-threads_say bounds (word ∷ next ∷ more) f =
+threads_say version bounds (word ∷ next ∷ more) f =
     let one = one_place threads_row (nat_lt 1 (length (word ∷ next ∷ more))) refl in
     let same : length (word ∷ next ∷ more) ≡ length (places_of threads_row (length (word ∷ next ∷ more))) = eqb-true _ _ (not-false _ f.count) in
     absurd (omega (arith, same, one))
@@ -136,22 +136,21 @@ own_line first rest at threads = record {
   no_go = rw threads refl;
   no_join = rw threads refl;
   says = λ c e.
-      form_own (is_text first (codes "type")) (is_text first (codes "gc")) (is_text first (codes "at")) (type_places rest) (form_after_gc rest)
-      (form_after_at rest) (plain_form (length rest) (row_named first rows)) at (after_gc_own rest)
+      form_own (is_text first (codes "gc")) (is_text first (codes "at")) (form_after_gc rest) (form_after_at rest) (plain_form (length rest) (row_named first rows)) at (after_gc_own rest)
       (plain_own (length rest) (row_named first rows) (chosen first rows (own_rows first threads))) (first ∷ rest) c e;
 }
 
-line_by : (bounds : Bounds) (first : List ℕ) (rest : List (List ℕ)) (at threads : Bool) → is_text first (codes "at") ≡ at
-    → is_text first (codes "threads") ≡ threads → AreFaultless bounds (first ∷ rest) → IsLine (first ∷ rest) (command_of_words (first ∷ rest))
-line_by bounds first rest true threads a t f =
+line_by : (version : ℕ) (bounds : Bounds) (first : List ℕ) (rest : List (List ℕ)) (at threads : Bool) → is_text first (codes "at") ≡ at
+    → is_text first (codes "threads") ≡ threads → AreFaultless version bounds (first ∷ rest) → IsLine (first ∷ rest) (command_of_words (first ∷ rest))
+line_by version bounds first rest true threads a t f =
     let same : first ≡ codes "at" = (bytes_decides first (codes "at")).0 a in
     subst (λ word. IsLine (word ∷ rest) (command_of_words (word ∷ rest))) (sym same) (inl (record { is = refl; says = order_line rest }))
-line_by bounds first rest false true a t f =
+line_by version bounds first rest false true a t f =
     let same : first ≡ codes "threads" = (bytes_decides first (codes "threads")).0 t in
     subst (λ word. IsLine (word ∷ rest) (command_of_words (word ∷ rest))) (sym same)
-    (threads_say bounds rest (subst (λ word. AreFaultless bounds (word ∷ rest)) same f))
-line_by bounds first rest false false a t f = inr (inr (inr (own_line first rest a t)))
+    (threads_say version bounds rest (subst (λ word. AreFaultless version bounds (word ∷ rest)) same f))
+line_by version bounds first rest false false a t f = inr (inr (inr (own_line first rest a t)))
 
-pub line_of_words : (bounds : Bounds) (words : List (List ℕ)) → AreFaultless bounds words → IsLine words (command_of_words words)
-line_of_words bounds [] f = inr (inr (inr (record { no_order = refl; no_go = refl; no_join = refl; says = λ c e. absurd (none-some c e) })))
-line_of_words bounds (first ∷ rest) f = line_by bounds first rest (is_text first (codes "at")) (is_text first (codes "threads")) refl refl f
+pub line_of_words : (version : ℕ) (bounds : Bounds) (words : List (List ℕ)) → AreFaultless version bounds words → IsLine words (command_of_words words)
+line_of_words version bounds [] f = inr (inr (inr (record { no_order = refl; no_go = refl; no_join = refl; says = λ c e. absurd (none-some c e) })))
+line_of_words version bounds (first ∷ rest) f = line_by version bounds first rest (is_text first (codes "at")) (is_text first (codes "threads")) refl refl f

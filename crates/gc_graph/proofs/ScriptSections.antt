@@ -10,7 +10,7 @@ use Rattle.gc_graph.specs.declared.command.Command.TheVariants as C
 use Rattle.gc_graph.specs.Words.{words_of, is_blank}
 use Rattle.gc_graph.specs.Reasons.{Reason, first_is, reason_of_words, command_of_words}
 use Rattle.gc_graph.specs.Reasons.Reason.{Order, Section}
-use Rattle.gc_graph.specs.Script.{is_command, is_order, is_go, is_join, Threads, are_at_rest, are_waiting, are_going, threads_after, threads_of, breaks_section, bounds_after, reason_by_order, reason_at}
+use Rattle.gc_graph.specs.Script.{is_command, is_order, is_go, is_join, Threads, are_at_rest, are_waiting, are_going, threads_after, threads_of, breaks_section, version_of, bounds_after, reason_by_order, reason_at}
 use Rattle.gc_graph.specs.Script.Threads.{AtRest, Waiting, Going}
 use Rattle.gc_graph.specs.Sections.{awaiting_after, IsInSection, AreInSections}
 use Rattle.gc_graph.specs.ThreadLaw.{is_of_threads}
@@ -151,15 +151,15 @@ no_fault : (before words : List (List ℕ)) (last : Bool) (reason : Option Reaso
 no_fault before words last None e = refl
 no_fault before words last (Some reason) e = absurd (none-some reason (sym e))
 
-line_is_kept : (callbacks : ℕ) (before : List (List ℕ)) (line : List ℕ) (after : List (List ℕ)) (blank : Bool) → is_blank line ≡ blank
-    → cond blank None (reason_by_order before (words_of line) (list_all is_blank after) (reason_of_words (bounds_after callbacks before) (words_of line))) ≡ None
+line_is_kept : (version callbacks : ℕ) (before : List (List ℕ)) (line : List ℕ) (after : List (List ℕ)) (blank : Bool) → is_blank line ≡ blank
+    → cond blank None (reason_by_order before (words_of line) (list_all is_blank after) (reason_of_words version (bounds_after callbacks before) (words_of line))) ≡ None
     → IsKept (threads_of before) line after
-line_is_kept callbacks before line after true is e = inl is
-line_is_kept callbacks before line after false is e =
+line_is_kept version callbacks before line after true is e = inl is
+line_is_kept version callbacks before line after false is e =
     inr (record {
       whole = no_break before (words_of line) (list_all is_blank after) _ e;
-      line = line_of_words (bounds_after callbacks before) (words_of line)
-          (faultless (bounds_after callbacks before) (words_of line) (no_fault before (words_of line) (list_all is_blank after) _ e));
+      line = line_of_words version (bounds_after callbacks before) (words_of line)
+          (faultless version (bounds_after callbacks before) (words_of line) (no_fault before (words_of line) (list_all is_blank after) _ e));
     })
 
 abbrev threads_from : Threads → List (List ℕ) → Threads
@@ -184,5 +184,5 @@ lines_in_sections callbacks header rest none =
     (all_kept AtRest rest (λ i low.
     (let next : suc i + 1 ≡ suc (i + 1) = omega arith in
     subst (λ n. IsKept (threads_of (take i rest)) (get_or rest i []) (drop n (header ∷ rest))) next
-    (line_is_kept callbacks (take i rest) (get_or rest i []) (drop (suc i + 1) (header ∷ rest)) (is_blank (get_or rest i [])) refl (none (suc i) (omega arith))))))
+    (line_is_kept (version_of header) callbacks (take i rest) (get_or rest i []) (drop (suc i + 1) (header ∷ rest)) (is_blank (get_or rest i [])) refl (none (suc i) (omega arith))))))
     (λ all. refl)

@@ -13,9 +13,11 @@ use Rattle.gc_graph.specs.declared.kind.Value.{Value}
 use Rattle.gc_graph.specs.declared.kind.Value.TheVariants.{Null, Ref, Word}
 use Rattle.gc_graph.specs.State.{Node, Registration, no_node, node_at, is_live}
 use Rattle.gc_graph.specs.Fields.{field_count, kind_of_field, word_of_field, value_at, with_value}
-use Rattle.gc_graph.specs.Actions.{shown_words, action_of, cleared_field, added, added_field, cleared_at, added_at, linked, change_linked, acted}
-use Rattle.gc_graph.specs.Pause.{condemn, names_dead, cleared_values, with_cleared, clear_node, clear_fields, is_dead_at, kind_of_callback, run_order, prefinalised}
+use Rattle.gc_graph.specs.Actions.{cleared_field, added, added_field, cleared_at, added_at, linked, change_linked, acted}
+use Rattle.gc_graph.specs.Pause.{condemn, names_dead, cleared_values, with_cleared, clear_node, clear_fields, is_dead_at, prefinalised}
+use Rattle.gc_graph.specs.WeakCalls.{WeakCall, called}
 use Rattle.gc_graph.specs.Sweep.{finalise, buried}
+use Rattle.gc_graph.proofs.Called.{callbacks_keep}
 use Rattle.gc_graph.proofs.Condemned.{condemned_at}
 
 abbrev pub IsSmall : Value → Type 0
@@ -88,13 +90,6 @@ acted_small nodes dying (A.Clear link field) h =
 acted_small nodes dying (A.Add link field amount) h =
     change_small nodes (linked (node_at nodes dying) link) (λ node. added_at node field amount) (λ node. added_at_small node field amount) h
 
-prefinalised_small : (callbacks : List ActionKind) (registrations : List Registration) (nodes : List Node) → All HasSmall nodes
-    → All HasSmall (prefinalised callbacks registrations nodes)
-prefinalised_small callbacks [] nodes h = h
-prefinalised_small callbacks (r ∷ more) nodes h =
-    let action : Action = action_of (kind_of_callback callbacks r.callback) (shown_words (node_at nodes r.node)) in
-    prefinalised_small callbacks more (acted nodes r.node action) (acted_small nodes r.node action h)
-
 -- ---- the pause
 
 either_small : (flag : Bool) (value : Value) → IsSmall value → IsSmall (if flag then Null else value)
@@ -130,11 +125,11 @@ condemned_small : (kept : List Bool) (nodes : List Node) → All HasSmall nodes 
 condemned_small kept nodes h =
     All-from_get_or HasSmall (condemn kept nodes) no_node (λ i l. subst HasSmall (sym (condemned_at kept nodes i)) (small_at nodes i h))
 
-pub paused_small : (callbacks : List ActionKind) (registrations : List Registration) (kept : List Bool) (nodes : List Node) → All HasSmall nodes
-    → All HasSmall (prefinalised callbacks (run_order (condemn kept nodes) registrations) (clear_fields (condemn kept nodes)))
-paused_small callbacks registrations kept nodes h =
+pub paused_small : (callbacks : List ActionKind) (calls : List WeakCall) (registrations : List Registration) (kept : List Bool) (nodes : List Node)
+    → All HasSmall nodes → All HasSmall (prefinalised callbacks registrations (called callbacks calls (clear_fields (condemn kept nodes))))
+paused_small callbacks calls registrations kept nodes h =
     let dead : ℕ → Bool = is_dead_at (condemn kept nodes) in
-    prefinalised_small callbacks (run_order (condemn kept nodes) registrations) (clear_fields (condemn kept nodes))
+    callbacks_keep (All HasSmall) acted_small callbacks calls registrations (clear_fields (condemn kept nodes))
     (All-map HasSmall (clear_node dead) (condemn kept nodes)
     (All-weaker HasSmall (λ node. HasSmall (clear_node dead node)) (clear_node_small dead) (condemn kept nodes) (condemned_small kept nodes h)))
 

@@ -38,7 +38,7 @@ bury_one nodes n dead =
       whole = length-set nodes n node;
       dead = dead;
       gone = ap (λ (x : Node). x.life) at;
-      put = record { place = ap (λ (x : Node). x.place) at; size = ap (λ (x : Node). length x.object.values) at };
+      put = record { place = ap (λ (x : Node). x.place) at; size = ap (λ (x : Node). length x.object.values) at; ty = ap (λ (x : Node). x.object.ty) at };
       others = λ m ne. subst (IsLikeNode (node_at nodes m)) (sym (get_or-set_other nodes n m node no_node ne)) (like_same (node_at nodes m));
     }
 
@@ -72,6 +72,7 @@ bury_rest f nodes after n numbers up h =
               place = gone.1.place ∙ sym mid.put.place;
               size = gone.1.size ∙ sym mid.put.size;
               life = gone.0 ∙ sym mid.gone;
+              ty = gone.1.ty ∙ sym mid.put.ty;
             }))
         | inr other ↦
             subst (λ x. IsLikeNode x (node_at after m)) (kept m other)
@@ -90,8 +91,8 @@ bury_all f (n ∷ numbers) nodes after up h = record {
 
 put_finalised : (limit : ℕ) (x : Node) → StaysPut x (finalise limit x)
 put_finalised limit x =
-    cond_both (nat_lt x.place limit) (record x { life = buried x.life }) x (StaysPut x) (λ e. record { place = refl; size = refl })
-    (λ e. record { place = refl; size = refl })
+    cond_both (nat_lt x.place limit) (record x { life = buried x.life }) x (StaysPut x) (λ e. record { place = refl; size = refl; ty = refl })
+    (λ e. record { place = refl; size = refl; ty = refl })
 
 gone_finalised : (limit : ℕ) (x : Node) → x.life ≡ Dead → x.place < limit → (finalise limit x).life ≡ Gone
 gone_finalised limit x dead low =
@@ -100,7 +101,7 @@ gone_finalised limit x dead low =
 like_finalised : (limit : ℕ) (x : Node) → (x.life ≡ Dead → x.place < limit → ⊥) → IsLikeNode x (finalise limit x)
 like_finalised limit x out =
     cond_both (nat_lt x.place limit) (record x { life = buried x.life }) x (IsLikeNode x)
-    (λ e. record { place = refl; size = refl; life = sym (alive_stays x.life (λ dead. out dead (ltb-true x.place limit e))) }) (λ e. like_same x)
+    (λ e. record { place = refl; size = refl; life = sym (alive_stays x.life (λ dead. out dead (ltb-true x.place limit e))); ty = refl }) (λ e. like_same x)
 
 swept_buried : (nodes : List Node) (limit : ℕ) (numbers : List ℕ) → AreDeadInOrder nodes limit numbers
     → AreBuried nodes numbers (map (finalise limit) nodes)

@@ -91,12 +91,12 @@ steps_leave_threads setup old command piece lines new h =
 
 -- ---- what is counted
 
-at_most_one : (test : Line → Bool) → ((n : ℕ) → test (L.Finalise n) ≡ false) → ((n c : ℕ) → test (L.Prefinalise n c) ≡ false)
-    → ((line : Line) → tells_of_orders line ≡ true → test line ≡ false) → (family : Family) (lines : List Line) → IsAnsweredOnce family lines
+at_most_one : (test : Line → Bool) → ((n : ℕ) → test (L.Finalise n) ≡ false) → ((n d : ℕ) → test (L.WeakCall n d) ≡ false)
+    → ((n c : ℕ) → test (L.Prefinalise n c) ≡ false) → ((line : Line) → tells_of_orders line ≡ true → test line ≡ false) → (family : Family) (lines : List Line) → IsAnsweredOnce family lines
     → count_by test lines ≤ 1
-at_most_one test gone runs orders family lines h =
+at_most_one test gone weak runs orders family lines h =
     let first = none_counted test h.before (none_before test gone orders family h.before h.first) in
-    let last = none_counted test h.after (none_after test runs family h.after h.then) in
+    let last = none_counted test h.after (none_after test weak runs family h.after h.then) in
     let all : count_by test lines ≡ count_by test h.before + count_by test (h.answer ∷ h.after) =
     ap (count_by test) h.lines_are ∙ sum_by-append (λ x. if test x then 1 else 0) h.before (h.answer ∷ h.after) in
     elim (cases_Bool (test h.answer)) [
@@ -116,8 +116,8 @@ pub steps_count : StepsCount
 steps_count setup old command piece lines new h before =
     let told = (steps_stay_in_their_family setup old command piece lines new h).told in
     let counts = steps_count_lines setup old command piece lines new h in
-    let pauses = at_most_one tells_pause (λ n. refl) (λ n c. refl) order_no_pause (family_of command) lines told in
-    let full = at_most_one tells_full (λ n. refl) (λ n c. refl) order_not_full (family_of command) lines told in
+    let pauses = at_most_one tells_pause (λ n. refl) (λ n d. refl) (λ n c. refl) order_no_pause (family_of command) lines told in
+    let full = at_most_one tells_full (λ n. refl) (λ n d. refl) (λ n c. refl) order_not_full (family_of command) lines told in
     record {
       pauses = omega (arith, before.pauses, counts.commands, counts.pauses, pauses);
       full = omega (arith, before.full, counts.commands, counts.full, full);

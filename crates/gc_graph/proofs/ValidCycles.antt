@@ -12,7 +12,8 @@ use Rattle.gc_graph.specs.Reach.{Reach, AreNodes, IsLeastClosed}
 use Rattle.gc_graph.specs.State.{Setup, State, Node, RegionSlot, IsLive, graph_of, roots_of, slot_targets, stack_targets, strong_region_targets}
 use Rattle.gc_graph.specs.State.RegionSlot.{Vacant, StrongTo, WeakTo}
 use Rattle.gc_graph.specs.May.{marking}
-use Rattle.gc_graph.specs.Pause.{condemn, paused}
+use Rattle.gc_graph.specs.Pause.{condemn}
+use Rattle.gc_graph.specs.Paused.{paused}
 use Rattle.gc_graph.specs.Sweep.{SweepsTo}
 use Rattle.gc_graph.specs.Valid.{IsSettled}
 use Rattle.gc_graph.specs.Outcomes.{answered, took, with_entry, owner_entry}

@@ -4,7 +4,6 @@ use Rattle.std.specs.Prelude.{⊤}
 use Rattle.std.specs.List.{range_with_len}
 use Rattle.std.proofs.lemmas.Bool.{cond_both}
 use Rattle.std.proofs.lemmas.List.{length-map}
-use Rattle.std.proofs.lemmas.List.FromFn.{get_or-range_with_len, length-range_with_len}
 use Rattle.std.proofs.lemmas.List.Elements.{All-nil, All-cons, All-head, All-tail, All-map, All-append, All-filter, filter_passes}
 use Rattle.gc_graph.specs.declared.command.Want.{Want}
 use Rattle.gc_graph.specs.declared.command.Want.TheVariants.{Precise, Conservative}
@@ -16,7 +15,10 @@ use Rattle.gc_graph.specs.State.StackWord.{Pointer, Number}
 use Rattle.gc_graph.specs.State.RegionSlot.{Vacant, StrongTo, WeakTo}
 use Rattle.gc_graph.specs.May.{is_hit, hits_for}
 use Rattle.gc_graph.specs.History.{weak_target, cleared_by}
-use Rattle.gc_graph.specs.Pause.{IsKept, condemn, is_dead_at, clear_slot, names_dead_node, mask_of, dies, run_order, prefinalised, clear_fields, paused}
+use Rattle.gc_graph.specs.Pause.{IsKept, condemn, is_dead_at, clear_slot, names_dead_node, mask_of, dies, run_order, prefinalised, clear_fields}
+use Rattle.gc_graph.specs.WeakCalls.{weak_calls, called}
+use Rattle.gc_graph.specs.Paused.{paused}
+use Rattle.gc_graph.proofs.Called.{range_below}
 use Rattle.gc_graph.proofs.Reaching.{reach_law}
 use Rattle.gc_graph.proofs.RegionLaws.{lowest_flag, other_flags}
 use Rattle.gc_graph.proofs.Follows.{AllFollow, follow_from}
@@ -25,13 +27,10 @@ use Rattle.gc_graph.proofs.WeakReads.{refers_within}
 use Rattle.gc_graph.specs.NodeNumbers.{live_below}
 use Rattle.gc_graph.proofs.NodeWrites.{LookSame, look_more, live_after}
 use Rattle.gc_graph.proofs.Condemned.{stays, lives_on, cleared_look, cleared_heap}
-use Rattle.gc_graph.proofs.Prefinalising.{StaysInOrder, prefinalised_kept}
+use Rattle.gc_graph.proofs.Prefinalising.{StaysInOrder, callbacks_kept}
 use Rattle.gc_graph.proofs.ValidHandles.{Root}
 
 -- ---- what is kept
-
-range_below : (n : ℕ) → All (λ k. k < n) (range_with_len 0 n)
-range_below n k d l = let long = length-range_with_len 0 n in let inside : k < n = omega arith in omega (arith, get_or-range_with_len 0 n k d inside)
 
 hits_below : (want : Want) (s : State) → All (λ k. k < length s.nodes) (hits_for want s)
 hits_below Precise s = All-nil (λ k. k < length s.nodes)
@@ -108,14 +107,14 @@ module _ (setup : Setup) (s : State) (want : Want) (kept : List Bool) (g : IsSou
   Judged = condemn kept s.nodes
 
   abbrev pub Left : List Node
-  Left = prefinalised setup.callbacks (run_order Judged s.registrations) (clear_fields Judged)
+  Left = prefinalised setup.callbacks (run_order Judged s.registrations) (called setup.callbacks (weak_calls setup.types Judged) (clear_fields Judged))
 
   follows_kept : AllFollow s.nodes kept
   follows_kept = follow_from s.nodes kept (λ m. (length s.nodes, kinds_at setup s.nodes g.heap.typed m)) keeps.closed
 
   pub order : StaysInOrder setup (clear_fields Judged) Left
   order =
-      prefinalised_kept setup setup.callbacks (run_order Judged s.registrations) (clear_fields Judged)
+      callbacks_kept setup setup.callbacks (weak_calls setup.types Judged) (run_order Judged s.registrations) (clear_fields Judged)
       (cleared_heap setup kept s.nodes g.heap follows_kept)
 
   pub look : LookSame Judged Left

@@ -118,7 +118,7 @@ is_live_true Live e = refl
 is_live_true Dead e = cc
 is_live_true Gone e = cc
 
-true_is_live : (life : Life) → is_live life ≡ true → life ≡ Live
+pub true_is_live : (life : Life) → is_live life ≡ true → life ≡ Live
 true_is_live Live e = refl
 true_is_live Dead e = absurd (true≢false (sym e))
 true_is_live Gone e = absurd (true≢false (sym e))

@@ -10,11 +10,12 @@ use Rattle.gc_graph.specs.Actions.{acted}
 use Rattle.gc_graph.specs.Commands.{IsWordOf}
 use Rattle.gc_graph.specs.Valid.{IsTyped}
 
--- the nodes have the places and the lives that they had
+-- the nodes have the places, the lives and the types that they had
 pub record HaveStayed (old new : List Node) : Type 0 where
   pub count : length new ≡ length old
   pub place : (n : ℕ) → (node_at new n).place ≡ (node_at old n).place
   pub life : (n : ℕ) → (node_at new n).life ≡ (node_at old n).life
+  pub ty : (n : ℕ) → (node_at new n).object.ty ≡ (node_at old n).object.ty
 
 -- each object has the fields of its type
 abbrev pub AreTyped : Setup → List Node → Type 0

@@ -192,7 +192,7 @@ may_sweep (C.Sweep n) = true
 may_sweep C.SweepAll = true
 may_sweep other = false
 
--- the command may answer with more than one line: a pause, with its prefinalizers, and a join
+-- the command may answer with more than one line: a pause, with its callbacks, and a join
 abbrev pub may_tell_more : Command → Bool
 may_tell_more (C.GcFinish want) = true
 may_tell_more (C.GcNow want) = true
@@ -201,7 +201,7 @@ may_tell_more other = false
 
 -- the commands that may want memory
 abbrev pub MayWantMemory : Setup → Command → Type 0
-MayWantMemory setup (C.New p t e) = (type_at setup t).prefinalizers ≢ []
+MayWantMemory setup (C.New p t e) = ((type_at setup t).prefinalizers ≢ []) ⊎ ((type_at setup t).weak_callbacks ≢ [])
 MayWantMemory setup C.GcStart = ⊤
 MayWantMemory setup (C.GcNow want) = ⊤
 MayWantMemory setup (C.Export p x) = ⊤

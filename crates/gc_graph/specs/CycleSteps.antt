@@ -12,7 +12,9 @@ use Rattle.gc_graph.specs.declared.region.Op.TheVariants as O
 use Rattle.gc_graph.specs.State.{Setup, State, Node, StackWord, objects_of, used_of}
 use Rattle.gc_graph.specs.May.{marking, hits_for}
 use Rattle.gc_graph.specs.Placement.{extents_of, IsUsedPages}
-use Rattle.gc_graph.specs.Pause.{IsKept, condemn, live_count, dead_count, run_order, prefinalise_lines, entry_of_pause, paused}
+use Rattle.gc_graph.specs.Pause.{IsKept, condemn, live_count, dead_count, run_order}
+use Rattle.gc_graph.specs.WeakCalls.{weak_calls}
+use Rattle.gc_graph.specs.Paused.{entry_of_pause, paused, callback_lines}
 use Rattle.gc_graph.specs.Sweep.{SweepsTo, SweepsToEnd}
 use Rattle.gc_graph.specs.History.{IsLegalFrom}
 use Rattle.gc_graph.specs.Outcomes.{answered, IsRefused, RefusedIf, RefusedUnless, IsMemory, finalise_lines, took, AreOthers, owner_entry}
@@ -92,7 +94,7 @@ pub record IsPauseAt
   pub lines_are :
       lines
       ≡ L.Pause (live_count judged_nodes) (dead_count judged_nodes) crew traced walked
-      ∷ prefinalise_lines (run_order judged_nodes ready.registrations)
+      ∷ callback_lines (weak_calls setup.types judged_nodes) (run_order judged_nodes ready.registrations)
   pub after : new ≡ paused setup ready judged_nodes
 
 -- a pause of a collection that was started: others may make entries before its own, and then a set is kept and the other live

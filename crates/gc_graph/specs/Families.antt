@@ -5,7 +5,8 @@ use Rattle.gc_graph.specs.declared.command.Command.{Command}
 use Rattle.gc_graph.specs.declared.line.Line.{Line}
 use Rattle.gc_graph.specs.declared.region.Entry.{Entry}
 use Rattle.gc_graph.specs.State.{Setup, State, Registration}
-use Rattle.gc_graph.specs.Pause.{prefinalise_lines}
+use Rattle.gc_graph.specs.WeakCalls.{WeakCall}
+use Rattle.gc_graph.specs.Paused.{callback_lines}
 use Rattle.gc_graph.specs.CycleSteps.{is_marking}
 use Rattle.gc_graph.specs.History.{replayed}
 use Rattle.gc_graph.specs.Outcomes.{finalise_lines, IsThreadOp, AreOthers}
@@ -128,7 +129,7 @@ TellsBefore Threads told = All (λ line. tells_of_orders line ≡ true) told
 
 -- what is told after it: the callbacks that a pause ran
 abbrev pub TellsAfter : Family → List Line → Type 0
-TellsAfter Cycle told = (registrations : List Registration) × (told ≡ prefinalise_lines registrations)
+TellsAfter Cycle told = (calls : List WeakCall) × (registrations : List Registration) × (told ≡ callback_lines calls registrations)
 TellsAfter family told = told ≡ []
 
 -- one line answers the command, or says that nothing was done

@@ -1,5 +1,5 @@
 -- The forms of a script's commands: what may stand at each word of a line, and the command that the words say.
-use Rattle.std.specs.Prelude.{ℕ, zero, suc, ◌^◌, nat_lt, List, [], ◌∷◌, ◌++◌, length, replicate, max, Option, Some, None, if◌then◌else◌, codes}
+use Rattle.std.specs.Prelude.{ℕ, zero, suc, ◌^◌, ◌==◌, nat_lt, List, [], ◌∷◌, ◌++◌, length, replicate, Option, Some, None, if◌then◌else◌, codes}
 use Rattle.gc_graph.specs.declared.command.Command.{Command}
 use Rattle.gc_graph.specs.declared.command.Command.TheVariants as C
 use Rattle.gc_graph.specs.declared.command.Order.{Order}
@@ -256,18 +256,51 @@ form_after_at [] = Missing []
 form_after_at (j ∷ []) = Missing (thread ∷ [])
 form_after_at (j ∷ third ∷ rest) = at_form (length rest) (row_named third at_rows)
 
--- the letters; with more words `pre` and one callback or more
-abbrev pub type_places : List (List ℕ) → List Place
-type_places [] = Letters ∷ []
-type_places (letters ∷ []) = Letters ∷ []
-type_places (letters ∷ pre ∷ callbacks) =
-    Letters ∷ Fixed (codes "pre") ∷ replicate (max 1 (length callbacks)) Callback
+-- the words of a type line before the word `weak`
+abbrev pub before_weak : List (List ℕ) → List (List ℕ)
+before_weak [] = []
+before_weak (word ∷ words) = if is_text word (codes "weak") then [] else word ∷ before_weak words
 
--- the form of a line by its words
+-- the words from the word `weak` on
+abbrev pub from_weak : List (List ℕ) → List (List ℕ)
+from_weak [] = []
+from_weak (word ∷ words) = if is_text word (codes "weak") then word ∷ words else from_weak words
+
+-- after the letters stands the list of the prefinalizers, which `weak` ends in version 2
+abbrev pub first_list : ℕ → List (List ℕ) → List (List ℕ)
+first_list version words = if version == 2 then before_weak words else words
+
+-- and then that of the weak callbacks, in version 2
+abbrev pub second_list : ℕ → List (List ℕ) → List (List ℕ)
+second_list version words = if version == 2 then from_weak words else []
+
+-- the places of a list: its name, and a callback for each word after it
+abbrev pub list_places : List ℕ → List (List ℕ) → List Place
+list_places name [] = []
+list_places name (word ∷ numbers) = Fixed name ∷ replicate (length numbers) Callback
+
+-- the callback that a list lacks whose name stands alone
+abbrev pub lacking : List (List ℕ) → List Place
+lacking (word ∷ []) = Callback ∷ []
+lacking words = []
+
+-- the letters, the two lists, and what they lack
+abbrev pub type_places : ℕ → List (List ℕ) → List Place
+type_places version [] = Letters ∷ []
+type_places version (letters ∷ words) =
+    Letters ∷ (list_places (codes "pre") (first_list version words) ++ (list_places (codes "weak") (second_list version words)
+    ++ (lacking (first_list version words) ++ lacking (second_list version words))))
+
+-- the form of a command by its words
 abbrev pub form_of : List (List ℕ) → Form
 form_of [] = Missing []
 form_of (first ∷ rest) =
-    if is_text first (codes "type") then Known (type_places rest) (λ numbers. None)
-    else if is_text first (codes "gc") then form_after_gc rest
+    if is_text first (codes "gc") then form_after_gc rest
     else if is_text first (codes "at") then form_after_at rest
     else plain_form (length rest) (row_named first rows)
+
+-- the form of a line by its words, in a version of the grammar
+abbrev pub line_form : ℕ → List (List ℕ) → Form
+line_form version [] = Missing []
+line_form version (first ∷ rest) =
+    if is_text first (codes "type") then Known (type_places version rest) (λ numbers. None) else form_of (first ∷ rest)

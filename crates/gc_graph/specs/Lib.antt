@@ -11,6 +11,8 @@ pub mod History
 pub mod Actions
 pub mod Outcomes
 pub mod Pause
+pub mod WeakCalls
+pub mod Paused
 pub mod ObjectSteps
 pub mod HandleSteps
 pub mod CycleSteps
@@ -41,6 +43,7 @@ pub mod CountsLaw
 pub mod AnswersLaw
 pub mod ClearingLaw
 pub mod PrefinalizerLaw
+pub mod WeakCallLaw
 pub mod RefusalLaw
 pub mod RefusalsExactLaw
 pub mod PlacementLaw

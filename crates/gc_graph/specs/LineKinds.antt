@@ -29,6 +29,7 @@ tells_place other = false
 -- a pause, or a callback that ran in it
 abbrev pub tells_of_pause : Line → Bool
 tells_of_pause (L.Pause kept dead crew traced walked) = true
+tells_of_pause (L.WeakCall n d) = true
 tells_of_pause (L.Prefinalise n c) = true
 tells_of_pause other = false
 

@@ -15,6 +15,7 @@ pub record IsWithinLimits (setup : Setup) : Type 0 where
   pub pages : setup.shape.pages ≤ 1024
   pub page_words : setup.shape.page_words ≤ 16384
   pub callbacks : All (λ (type : ObjectType). All (λ c. c < 2 ^ 64) type.prefinalizers) setup.types
+  pub weak_callbacks : All (λ (type : ObjectType). All (λ c. c < 2 ^ 64) type.weak_callbacks) setup.types
 
 -- a lawful run of commands in their ranges, of which there are no more than a script can have, and the end line after it
 pub record IsReported (setup : Setup) (commands : List Command) (outcomes : List Outcome) (history : List Entry) (end : Line) : Type 0 where

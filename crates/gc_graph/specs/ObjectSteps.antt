@@ -45,10 +45,11 @@ pub record IsAllocation (setup : Setup) (old : State) (p t extra : ℕ) (lines :
   pub placed : IsPlacement setup.shape old (size_of_type setup t extra) numbers mid place
   pub done : MatchOption place (IsFull mid numbers lines new) (λ a. IsMade setup mid p t extra numbers lines new a)
 
--- new: an allocation; only a type with prefinalizers may want memory
+-- new: an allocation; only a type with prefinalizers or weak callbacks may want memory
 abbrev pub StepNew : Setup → State → ℕ → ℕ → ℕ → List Line → State → Type 0
 StepNew setup old p t extra lines new =
-    (((type_at setup t).prefinalizers ≢ []) × IsMemory old lines new) ⊎ IsAllocation setup old p t extra lines new
+    ((((type_at setup t).prefinalizers ≢ []) ⊎ ((type_at setup t).weak_callbacks ≢ [])) × IsMemory old lines new)
+    ⊎ IsAllocation setup old p t extra lines new
 
 -- ---- fields
 

@@ -1,5 +1,5 @@
--- What a pause keeps, what it condemns, and which weak handles it clears.
-use Rattle.std.specs.Prelude.{ℕ, ◌+◌, ◌*◌, Bool, true, false, List, [], ◌∷◌, ◌++◌, map, filter, reverse, not, Option, Some, None, count_by, if◌then◌else◌, slice_index_or}
+-- What a pause keeps, what it condemns, which weak handles it clears, and which prefinalizers it runs.
+use Rattle.std.specs.Prelude.{ℕ, ◌+◌, ◌*◌, Bool, true, false, List, [], ◌∷◌, ◌++◌, map, filter, reverse, Option, Some, None, count_by, if◌then◌else◌, slice_index_or}
 use Rattle.gc_graph.specs.declared.action.ActionKind.{ActionKind}
 use Rattle.gc_graph.specs.declared.action.ActionKind.TheVariants as K
 use Rattle.gc_graph.specs.declared.kind.Kind.{Kind}
@@ -8,17 +8,13 @@ use Rattle.gc_graph.specs.declared.kind.Value.{Value}
 use Rattle.gc_graph.specs.declared.kind.Value.TheVariants.{Null, Ref, Word}
 use Rattle.gc_graph.specs.declared.line.Line.{Line}
 use Rattle.gc_graph.specs.declared.line.Line.TheVariants as L
-use Rattle.gc_graph.specs.declared.phase.Phase.TheVariants.{Sweeping}
-use Rattle.gc_graph.specs.declared.region.Entry.{Entry}
-use Rattle.gc_graph.specs.declared.region.Op.TheVariants as O
 use Rattle.gc_graph.specs.Graph.{IsClosed, IsWithin}
 use Rattle.gc_graph.specs.Reach.{Reach}
-use Rattle.gc_graph.specs.State.{Setup, State, Node, Life, RegionSlot, Registration, node_at, is_live, is_dead, graph_of, roots_of}
+use Rattle.gc_graph.specs.State.{State, Node, Life, RegionSlot, Registration, node_at, is_live, is_dead, graph_of, roots_of}
 use Rattle.gc_graph.specs.State.Life.{Live, Dead, Gone}
 use Rattle.gc_graph.specs.May.{members}
 use Rattle.gc_graph.specs.History.{weak_target}
 use Rattle.gc_graph.specs.Actions.{shown_words, action_of, acted}
-use Rattle.gc_graph.specs.Outcomes.{with_entry, owner_entry}
 
 -- the least that a pause keeps: what the roots and the hits reach
 abbrev pub least_kept : State → List ℕ → List Bool
@@ -151,21 +147,3 @@ prefinalised callbacks (r ∷ more) nodes =
 -- a line for each prefinalizer that was run
 abbrev pub prefinalise_lines : List Registration → List Line
 prefinalise_lines registrations = map (λ r. L.Prefinalise r.node r.callback) registrations
-
--- ---- the pause in whole
-
--- the owner's entry of a pause, which clears the slots of the region
-abbrev pub entry_of_pause : State → List Node → Entry
-entry_of_pause s judged_nodes = owner_entry s (O.Pause (cleared s judged_nodes).region_mask)
-
--- the state after a pause, from the one just before its entry and the nodes after judgement: the entry is made, weak handles
--- are cleared, and prefinalizers run; then a sweep is open
-abbrev pub paused : Setup → State → List Node → State
-paused setup s judged_nodes = record (with_entry s (entry_of_pause s judged_nodes)) {
-  nodes = prefinalised setup.callbacks (run_order judged_nodes s.registrations) (cleared s judged_nodes).nodes;
-  weak = (cleared s judged_nodes).weak;
-  registrations = filter (λ r. not (dies judged_nodes r)) s.registrations;
-  phase = Sweeping;
-  cursor = 0;
-  pauses = s.pauses + 1;
-}

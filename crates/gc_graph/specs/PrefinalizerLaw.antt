@@ -9,6 +9,7 @@ use Rattle.gc_graph.specs.declared.region.Entry.{Entry}
 use Rattle.gc_graph.specs.State.{Setup, State, Node, Registration, node_at, type_at, is_dead}
 use Rattle.gc_graph.specs.Actions.{shown_words, action_of, acted}
 use Rattle.gc_graph.specs.Pause.{clear_fields, kind_of_callback, prefinalised}
+use Rattle.gc_graph.specs.WeakCalls.{weak_calls, called}
 use Rattle.gc_graph.specs.Step.{Step}
 use Rattle.gc_graph.specs.Valid.{IsValid}
 
@@ -37,13 +38,17 @@ abbrev pub last_first : List Node → List Registration → List Registration
 last_first nodes registrations = reverse (filter (is_of_the_dead nodes) registrations)
 
 -- the callbacks of those that are dead then ran, the last that was registered first; just these are told, in this order; they met
--- the objects from before the pause, with weak fields cleared; and the other registrations stay as they were
+-- what weak callbacks left of the objects from before the pause, with weak fields cleared; and the other registrations stay as they
+-- were
 pub record RunsThoseOfTheDead (setup : Setup) (old : State) (lines : List Line) (new : State) : Type 0 where
   pub told : filter tells_prefinalizer lines ≡ map (λ r. L.Prefinalise r.node r.callback) (last_first new.nodes old.registrations)
   pub judged_nodes : List Node
   pub objects : (n : ℕ) → (node_at judged_nodes n).object ≡ (node_at old.nodes n).object
   pub lives : (n : ℕ) → (node_at new.nodes n).life ≡ (node_at judged_nodes n).life
-  pub ran : new.nodes ≡ prefinalised setup.callbacks (last_first new.nodes old.registrations) (clear_fields judged_nodes)
+  pub ran :
+      new.nodes
+      ≡ prefinalised setup.callbacks (last_first new.nodes old.registrations)
+      (called setup.callbacks (weak_calls setup.types judged_nodes) (clear_fields judged_nodes))
   pub left : new.registrations ≡ filter (λ r. not (is_of_the_dead new.nodes r)) old.registrations
 
 -- so does each pause of a valid state

@@ -129,6 +129,7 @@ line_of_one name numbers =
     else if is_text name (codes "null") then from_none L.Null numbers
     else if is_text name (codes "word") then from_one (λ n. L.Word n) numbers
     else if is_text name (codes "started") then from_none L.Started numbers
+    else if is_text name (codes "weakcall") then from_two (λ k d. L.WeakCall k d) numbers
     else if is_text name (codes "prefinalise") then from_two (λ k c. L.Prefinalise k c) numbers
     else if is_text name (codes "finalise") then from_one (λ k. L.Finalise k) numbers
     else if is_text name (codes "queued") then from_none L.Queued numbers
@@ -242,6 +243,7 @@ numbers_of (L.Word n) = n ∷ []
 numbers_of L.Started = []
 numbers_of (L.Step t done) = t ∷ []
 numbers_of (L.Pause kept dead crew traced walked) = kept ∷ dead ∷ crew ∷ traced ∷ []
+numbers_of (L.WeakCall k d) = k ∷ d ∷ []
 numbers_of (L.Prefinalise k c) = k ∷ c ∷ []
 numbers_of (L.Finalise k) = k ∷ []
 numbers_of (L.Swept c) = c ∷ []

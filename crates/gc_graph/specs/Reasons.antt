@@ -5,8 +5,9 @@ use Rattle.gc_graph.specs.declared.command.Command.{Command}
 use Rattle.gc_graph.specs.declared.kind.Kind.{Kind}
 use Rattle.gc_graph.specs.declared.kind.Kind.TheVariants.{Strong, Weak, Pair, Plain}
 use Rattle.gc_graph.specs.State.{ObjectType}
+use Rattle.gc_graph.specs.Fields.{field_words}
 use Rattle.gc_graph.specs.Words.{is_text, is_number, value_after}
-use Rattle.gc_graph.specs.Forms.{Place, Form, form_of}
+use Rattle.gc_graph.specs.Forms.{Place, Form, before_weak, from_weak, form_of, line_form}
 use Rattle.gc_graph.specs.Forms.Place.{Fixed, Either, Letters, Number, NumberOr, TypeNumber, Callback}
 use Rattle.gc_graph.specs.Forms.Form.{Missing, Unknown, Known}
 
@@ -137,6 +138,39 @@ abbrev pub is_half_null : List (List ℕ) → Bool
 is_half_null (first ∷ p ∷ f ∷ k ∷ v ∷ more) = is_text first (codes "pair") && is_half k v
 is_half_null words = false
 
+-- ---- the type that a line says
+
+-- the numbers that stand after the name of a list
+abbrev pub numbers_of : List (List ℕ) → List ℕ
+numbers_of list = map value_of (drop 1 list)
+
+-- the type of these letters; its prefinalizers stand after `pre`, its weak callbacks after `weak`
+abbrev pub type_said : List ℕ → List (List ℕ) → ObjectType
+type_said letters more = record {
+  kinds = kinds_of letters;
+  prefinalizers = numbers_of (before_weak more);
+  weak_callbacks = numbers_of (from_weak more);
+}
+
+-- the type that the words of a line say
+abbrev pub type_of_words : List (List ℕ) → Option ObjectType
+type_of_words [] = None
+type_of_words (first ∷ []) = None
+type_of_words (first ∷ letters ∷ more) = if is_text first (codes "type") then Some (type_said letters more) else None
+
+-- over 16 prefinalizers, over 16 weak callbacks, or at least one of these and fields of over 64 words
+abbrev pub is_too_large : ObjectType → Bool
+is_too_large type =
+    nat_lt 16 (length type.prefinalizers)
+    || (nat_lt 16 (length type.weak_callbacks) || (nat_lt 0 (length type.weak_callbacks) && nat_lt 64 (field_words type.kinds)))
+
+-- a type, if there is one, is too large
+abbrev pub is_any_too_large : Option ObjectType → Bool
+is_any_too_large None = false
+is_any_too_large (Some type) = is_too_large type
+
+-- ---- what is wrong
+
 -- some word is none of those that may stand there, or chooses no form
 abbrev pub has_unknown_word : Form → List (List ℕ) → Bool
 has_unknown_word (Missing places) words = any_word is_unknown places (rest_of words)
@@ -161,18 +195,26 @@ has_outside bounds (Missing places) words = any_word (is_outside bounds) places 
 has_outside bounds Unknown words = false
 has_outside bounds (Known places command) words = any_word (is_outside bounds) places (rest_of words)
 
--- over 16 callbacks, or 16,383 types before
+-- a type line whose type is too large, or before which stand 16,383
 abbrev pub has_too_many : Bounds → List (List ℕ) → Bool
-has_too_many bounds words = first_is (codes "type") words && (nat_lt 19 (length words) || nat_le 16383 bounds.types)
+has_too_many bounds words = first_is (codes "type") words && (is_any_too_large (type_of_words words) || nat_le 16383 bounds.types)
 
--- the lowest reason that the words give by themselves
-abbrev pub reason_of_words : Bounds → List (List ℕ) → Option Reason
-reason_of_words bounds words =
-    if has_unknown_word (form_of words) words then Some UnknownWord
-    else if has_bad_number (form_of words) words then Some BadNumber
-    else if has_other_count (form_of words) words then Some Count
-    else if has_outside bounds (form_of words) words || has_too_many bounds words then Some Range
+-- the lowest reason that words give by themselves, in this form
+abbrev pub reason_by_form : Bounds → Form → List (List ℕ) → Option Reason
+reason_by_form bounds form words =
+    if has_unknown_word form words then Some UnknownWord
+    else if has_bad_number form words then Some BadNumber
+    else if has_other_count form words then Some Count
+    else if has_outside bounds form words || has_too_many bounds words then Some Range
     else None
+
+-- the lowest reason that the words of a command give by themselves
+abbrev pub reason_of_command : Bounds → List (List ℕ) → Option Reason
+reason_of_command bounds words = reason_by_form bounds (form_of words) words
+
+-- the lowest reason that the words of a line give by themselves, in a version of the grammar
+abbrev pub reason_of_words : ℕ → Bounds → List (List ℕ) → Option Reason
+reason_of_words version bounds words = reason_by_form bounds (line_form version words) words
 
 -- ---- what the words say
 
@@ -185,11 +227,3 @@ command_by (Known places command) words = command (all_say places (rest_of words
 -- the command that the words of a line say
 abbrev pub command_of_words : List (List ℕ) → Option Command
 command_of_words words = command_by (form_of words) words
-
--- the callbacks stand after `pre`
-abbrev pub type_of_words : List (List ℕ) → Option ObjectType
-type_of_words [] = None
-type_of_words (first ∷ []) = None
-type_of_words (first ∷ letters ∷ more) =
-    if is_text first (codes "type") then Some (record { kinds = kinds_of letters; prefinalizers = map value_of (drop 1 more) })
-    else None

@@ -6,7 +6,7 @@ use Rattle.gc_graph.specs.declared.region.Op.TheVariants as O
 use Rattle.gc_graph.specs.State.{Setup, State, Node, RegionSlot, IsDead}
 use Rattle.gc_graph.specs.State.RegionSlot.{Vacant, StrongTo, WeakTo}
 use Rattle.gc_graph.specs.History.{region_slot, region_after, node_of, weak_target, NamesWeakSlots}
-use Rattle.gc_graph.specs.Pause.{paused}
+use Rattle.gc_graph.specs.Paused.{paused}
 
 -- ---- what a call makes of the slots
 

@@ -96,6 +96,7 @@ line_text (L.Word n) = codes "word " ++ decimal n
 line_text L.Started = codes "started"
 line_text (L.Step t done) = codes "step traced " ++ decimal t ++ codes " " ++ done_text done
 line_text (L.Pause kept dead crew traced walked) = pause_text kept dead crew traced walked
+line_text (L.WeakCall k d) = codes "weakcall " ++ decimal k ++ codes " " ++ decimal d
 line_text (L.Prefinalise k c) = codes "prefinalise " ++ decimal k ++ codes " " ++ decimal c
 line_text (L.Finalise k) = codes "finalise " ++ decimal k
 line_text (L.Swept c) = codes "swept to " ++ decimal c

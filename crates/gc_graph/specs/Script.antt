@@ -20,9 +20,17 @@ IsInLimits bytes = IsTooLong bytes → ⊥
 
 -- ---- kinds of lines
 
--- the words of the first line are `oilpan` and `1`
+-- the words of a line are `oilpan` and the name of a version
+abbrev pub names_version : List ℕ → List ℕ → Bool
+names_version version line = pointwise is_text (words_of line) (codes "oilpan" ∷ version ∷ [])
+
+-- the first line names version 1 or version 2
 abbrev pub is_header : List ℕ → Bool
-is_header line = pointwise is_text (words_of line) (codes "oilpan" ∷ codes "1" ∷ [])
+is_header line = names_version (codes "1") line || names_version (codes "2") line
+
+-- the version that the first line names
+abbrev pub version_of : List ℕ → ℕ
+version_of header = if names_version (codes "2") header then 2 else 1
 
 -- a type line
 abbrev pub is_type : List ℕ → Bool
@@ -111,7 +119,7 @@ reason_of callbacks [] line after = if is_header line then None else Some Header
 reason_of callbacks (header ∷ before) line after =
     if is_blank line then None
     else reason_by_order before (words_of line) (list_all is_blank after)
-    (reason_of_words (bounds_after callbacks before) (words_of line))
+    (reason_of_words (version_of header) (bounds_after callbacks before) (words_of line))
 
 -- line i + 1; a missing first line counts as one
 abbrev pub reason_at : ℕ → List (List ℕ) → ℕ → Option Reason

@@ -13,14 +13,16 @@ pub record Shape : Type 0 where
   pub pages : ℕ
   pub page_words : ℕ
 
--- what a type line declares: the kinds of the fields, and the callbacks that are the type's prefinalizers
+-- what a type line declares: the kinds of the fields, and the callbacks that are the type's prefinalizers and its weak
+-- callbacks
 pub record ObjectType : Type 0 where
   pub kinds : List Kind
   pub prefinalizers : List ℕ
+  pub weak_callbacks : List ℕ
 
 -- what stands at a number that no type has
 abbrev pub no_type : ObjectType
-no_type = record { kinds = []; prefinalizers = [] }
+no_type = record { kinds = []; prefinalizers = []; weak_callbacks = [] }
 
 -- what the options, the script and the program fix: the shape of the heap, how many markers run, the types by number,
 -- and the kinds of the callbacks by number

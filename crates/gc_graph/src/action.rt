@@ -1,6 +1,6 @@
-// What prefinalizers do (`include/cppgc/prefinalizer.h`).
+// What callbacks do (`include/cppgc/prefinalizer.h`, `include/cppgc/visitor.h`).
 
-/// What a prefinalizer does to the object that field `link` of the dying object names.
+/// What a callback does to the object that field `link` of its own object names.
 ///
 /// | action | |
 /// |---|---|
@@ -14,8 +14,8 @@ pub enum Action {
     Add { link: u32, field: u32, amount: u64 },
 }
 
-/// Which action a callback answers, from the shown words of the dying object: a plain word as it
-/// is, 0 for a null reference and 1 for any other.
+/// Which action a callback answers, from the shown words of its object: a plain word as it is, 0 for
+/// a null reference and 1 for any other; and to a weak callback 2 for a weak field that was cleared.
 ///
 /// | kind | action |
 /// |---|---|

@@ -8,6 +8,7 @@ ghost use Rattle.gc_graph.specs.ReadBack.{LinesReadBack, ReportReadsBack};
 ghost use Rattle.gc_graph.specs.RefusalLaw.{RefusedLeavesAll, MemoryLeavesAll, FullLeavesRest};
 ghost use Rattle.gc_graph.specs.RefusalsExactLaw.{RefusedForTheFirstReason};
 ghost use Rattle.gc_graph.specs.ScriptLaw.{TextsAreJudged, ScriptsAreInRanges};
+ghost use Rattle.gc_graph.specs.ScriptLaw.{WeakCallbacksAreOfVersionTwo};
 ghost use Rattle.gc_graph.specs.ValidLaw.{EmptyIsValid, OrdersKeepValid, StepKeepsValid};
 
 /// A heap without objects is valid.
@@ -118,4 +119,9 @@ pub fn texts_are_judged()
 /// numbers are in their ranges.
 pub fn scripts_are_in_ranges()
     ensures { ScriptsAreInRanges }
+{}
+
+/// A script of version 1 has no weak callbacks.
+pub fn weak_callbacks_are_of_version_two()
+    ensures { WeakCallbacksAreOfVersionTwo }
 {}

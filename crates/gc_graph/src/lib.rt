@@ -7,7 +7,7 @@
 //!
 //! The parts: `Kind` and `Value` (fields and what they hold), `Command`, `Order` and `Want` (what a
 //! script asks), `Line` and `Refusal` (what a report answers), `Entry`, `Op` and `Reply` (the
-//! region's history), `Action` and `ActionKind` (what prefinalizers do), `Phase`, `NoMemory`;
+//! region's history), `Action` and `ActionKind` (what callbacks do), `Phase`, `NoMemory`;
 //! `Graph` and `reach_check`, by which a program checks a set of nodes; `laws`. The definitions
 //! stand in `specs/`, to be read in the order of `specs/Lib.antt`.
 //!
@@ -36,6 +36,7 @@ mod laws_of_reports;
 mod laws_of_sweeping;
 mod laws_of_threads;
 mod laws_of_totals;
+mod laws_of_weak_callbacks;
 mod line;
 mod members;
 mod memory;
@@ -53,7 +54,7 @@ pub use laws::{
     memory_leaves_all, orders_keep_valid, pages_have_one_bucket, pause_bounds_meet,
     placement_is_free, refused_for_the_first_reason, refused_leaves_all, replies_are_of_one_thread,
     report_reads_back, runs_are_replayed, scripts_are_in_ranges, step_keeps_valid,
-    sweeps_finalise_dead, texts_are_judged,
+    sweeps_finalise_dead, texts_are_judged, weak_callbacks_are_of_version_two,
 };
 pub use laws_of_accesses::{
     commands_are_answered_in_kind, new_objects_are_empty, slots_are_copied, steps_leave_the_rest,
@@ -82,6 +83,7 @@ pub use laws_of_threads::{
     steps_make_own_entries, threads_do_their_orders,
 };
 pub use laws_of_totals::{counts_tell_what_is_held, runs_count_commands, totals_are_of_their_time};
+pub use laws_of_weak_callbacks::pauses_run_weak_callbacks;
 pub use line::{Line, Refusal};
 pub use memory::NoMemory;
 pub use phase::Phase;

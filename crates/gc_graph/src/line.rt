@@ -19,10 +19,10 @@ pub enum Refusal {
     Empty,
 }
 
-/// One line of a report. `k` is a node, `a` an address in words, `c` a callback or a cursor, `j` a
-/// thread, `m` threads, `n` objects, `u` words and `g` pages. `t` is a type, or in `Step` how many
-/// objects were traced; in `Word` `n` is the word. The totals that a thread saw have the number `o`
-/// of the commands before, and `f` finalisations.
+/// One line of a report. `k` is a node, `a` an address in words, `c` a callback or a cursor, `d` a
+/// weak callback, `j` a thread, `m` threads, `n` objects, `u` words and `g` pages. `t` is a type, or
+/// in `Step` how many objects were traced; in `Word` `n` is the word. The totals that a thread saw
+/// have the number `o` of the commands before, and `f` finalisations.
 #[derive(Clone, Copy, Drop)]
 pub enum Line {
     TypeLine {
@@ -54,6 +54,10 @@ pub enum Line {
         crew: u32,
         traced: u32,
         walked: bool,
+    },
+    WeakCall {
+        k: u32,
+        d: u32,
     },
     Prefinalise {
         k: u32,
