@@ -13,7 +13,7 @@ use Rattle.pair_notes.specs.declared.notes.Note.{Note}
 
 -- one type, with two fields and no prefinalizer
 abbrev pub two_fields : Kind → Kind → List ObjectType
-two_fields first second = record { kinds = first ∷ second ∷ []; prefinalizers = [] } ∷ []
+two_fields first second = record { kinds = first ∷ second ∷ []; prefinalizers = []; weak_callbacks = [] } ∷ []
 
 -- one type, with a pair and after it a strong field
 abbrev pub pair_then_strong : List ObjectType

@@ -36,7 +36,7 @@ pub fn one_type(alloc: Global, first: Kind, second: Kind) -> Result<TypeTable, N
     fields.push(first)?;
     fields.push(second)?;
     let mut types = Vec::new(alloc);
-    types.push(TypeDecl::new(fields, Vec::new(alloc)))?;
+    types.push(TypeDecl::new(fields, Vec::new(alloc), Vec::new(alloc)))?;
     let Ok(types) = TypeTable::new(alloc, types, 0) else {
         return Err(NoMemory);
     };

@@ -6,16 +6,18 @@ use gc_graph::{Kind, NoMemory};
 use std::alloc::Global;
 use type_table::{TracedWord, TypeDecl, TypeFault, TypeTable};
 
-/// A strong field, a pair, a weak field and a pair; and a type without fields, with two callbacks.
+/// A strong field, a pair, a weak field and a pair; and a type without fields, with two
+/// prefinalizers and a weak callback.
 fn two_types(alloc: Global) -> Result<Vec<TypeDecl>, NoMemory>
     ensures { IfOk result (λ types. length types.items ≡ 2) }
 {
     let kinds = [Kind::Strong, Kind::Pair, Kind::Weak, Kind::Pair];
     let mut types = Vec::new(alloc);
     let fields = Vec::from_slice(alloc, &kinds)?;
-    types.push(TypeDecl::new(fields, Vec::new(alloc)))?;
+    types.push(TypeDecl::new(fields, Vec::new(alloc), Vec::new(alloc)))?;
     let callbacks = Vec::from_slice(alloc, &[3, 0])?;
-    types.push(TypeDecl::new(Vec::new(alloc), callbacks))?;
+    let weak = Vec::from_slice(alloc, &[2])?;
+    types.push(TypeDecl::new(Vec::new(alloc), callbacks, weak))?;
     Ok(types)
 }
 
@@ -31,7 +33,7 @@ fn with_more(
         for _ in 0..fields {
             kinds.push(Kind::Strong)?;
         }
-        types.push(TypeDecl::new(kinds, Vec::new(alloc)))?;
+        types.push(TypeDecl::new(kinds, Vec::new(alloc), Vec::new(alloc)))?;
     }
     Ok(types)
 }
@@ -80,6 +82,8 @@ fn counts_and_lists_are_told(table: &TypeTable) -> bool
             ]
             .as_slice())
         & (table.callbacks(1) == [3, 0].as_slice())
+        & (table.weak_callbacks(1) == [2].as_slice())
+        & table.weak_callbacks(0).is_empty()
 }
 
 fn table_tells(alloc: Global) -> bool {
@@ -136,8 +140,35 @@ fn faults_are_told(alloc: Global) -> bool {
         & comes_to(alloc, two_types(alloc), 3, Some(unknown))
 }
 
+/// A type of a pair and so many weak fields, which has a weak callback.
+fn with_weak_callback(
+    alloc: Global,
+    fields: u32,
+    callback: u32,
+) -> Result<Vec<TypeDecl>, NoMemory> {
+    let mut kinds = Vec::new(alloc);
+    kinds.push(Kind::Pair)?;
+    for _ in 0..fields {
+        kinds.push(Kind::Weak)?;
+    }
+    let weak = Vec::from_slice(alloc, &[callback])?;
+    let mut types = Vec::new(alloc);
+    types.push(TypeDecl::new(kinds, Vec::new(alloc), weak))?;
+    Ok(types)
+}
+
+/// 64 words; one more; and an unknown callback besides.
+fn weak_callbacks_are_judged(alloc: Global) -> bool {
+    let over = TypeFault::TooManyWords { ty: 0 };
+    let unknown = TypeFault::NoCallback { ty: 0, callback: 1 };
+    comes_to(alloc, with_weak_callback(alloc, 62, 0), 1, None)
+        & comes_to(alloc, with_weak_callback(alloc, 63, 0), 1, Some(over))
+        & comes_to(alloc, with_weak_callback(alloc, 63, 1), 1, Some(unknown))
+}
+
 #[test]
 fn layouts_and_faults_are_told(rt: HostRuntime) {
     assert!(rt; table_tells(rt.alloc()));
     assert!(rt; most_is_taken(rt.alloc()) & faults_are_told(rt.alloc()));
+    assert!(rt; weak_callbacks_are_judged(rt.alloc()));
 }

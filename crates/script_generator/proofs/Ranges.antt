@@ -1,5 +1,5 @@
 -- The numbers of the commands of a generated script are in their ranges, and they are few.
-use Rattle.std.proofs.Common.{◌≡◌, ℕ, zero, suc, ◌+◌, ◌*◌, ◌%◌, ◌<◌, ◌≤◌, ◌==◌, false, true≢false, List, [], ◌∷◌, ◌++◌, length, All, refl, sym, subst, arith, length-append}
+use Rattle.std.proofs.Common.{◌≡◌, ◌≢◌, ℕ, zero, suc, ◌+◌, ◌*◌, ◌%◌, ◌<◌, ◌≤◌, ◌==◌, false, true≢false, List, [], ◌∷◌, ◌++◌, length, All, refl, sym, subst, arith, length-append}
 use Rattle.std.specs.List.{flat_map, range_with_len}
 use Rattle.std.proofs.lemmas.Bool.{cond_both}
 use Rattle.std.proofs.lemmas.List.Elements.{All-nil, All-cons, All-append, All-head, All-tail, All-weaker}
@@ -7,6 +7,7 @@ use Rattle.gc_graph.specs.declared.command.Command.{Command}
 use Rattle.gc_graph.specs.declared.command.Command.TheVariants as C
 use Rattle.gc_graph.specs.declared.command.Want.TheVariants.{Precise}
 use Rattle.gc_graph.specs.State.{ObjectType}
+use Rattle.gc_graph.specs.Fields.{field_words}
 use Rattle.gc_graph.specs.Lawful.{IsAllowed}
 use Rattle.gc_graph.specs.Sections.{awaiting_after, IsInSection, AreInSections}
 use Rattle.gc_graph.specs.ThreadLaw.{is_of_threads}
@@ -165,6 +166,12 @@ generated_is_in_ranges callbacks seed count low = record {
   known =
       of_types (λ type. All (λ number. number < callbacks) type.prefinalizers) (All-nil (λ number. number < callbacks))
       (All-nil (λ number. number < callbacks));
+  weak_modest = of_types (λ type. length type.weak_callbacks ≤ 16) (omega arith) (omega arith);
+  weak_known =
+      of_types (λ type. All (λ number. number < callbacks) type.weak_callbacks) (All-nil (λ number. number < callbacks))
+      (All-nil (λ number. number < callbacks));
+  shown =
+      of_types (λ type. type.weak_callbacks ≢ [] → field_words type.kinds ≤ 64) (λ some. absurd (some refl)) (λ some. absurd (some refl));
   allowed = All-weaker IsFit (IsAllowed 2) (λ c f. f.allowed) (generated seed count).commands (commands_fit seed count low).all;
   few = commands_few seed count low;
   sections = in_sections (generated seed count).commands (commands_fit seed count low).all;

@@ -24,11 +24,11 @@ number_after seed (suc i) = next_number (number_after seed i)
 
 -- an element of the tree: its first child and its next sibling, the element that it observes, and its number
 abbrev pub element : ObjectType
-element = record { kinds = Strong ∷ Strong ∷ Weak ∷ Plain ∷ []; prefinalizers = [] }
+element = record { kinds = Strong ∷ Strong ∷ Weak ∷ Plain ∷ []; prefinalizers = []; weak_callbacks = [] }
 
 -- an entry of the side table: the next entry, and an element with what belongs to it
 abbrev pub table_entry : ObjectType
-table_entry = record { kinds = Strong ∷ Pair ∷ []; prefinalizers = [] }
+table_entry = record { kinds = Strong ∷ Pair ∷ []; prefinalizers = []; weak_callbacks = [] }
 
 -- the types by number
 abbrev pub generated_types : List ObjectType

@@ -31,12 +31,12 @@ fn types(alloc: Global) -> Result<Vec<TypeDecl>, NoMemory>
     Ok(types)
 }
 
-// A type with these fields and no prefinalizer.
+// A type with these fields, without prefinalizers and weak callbacks.
 fn type_of(alloc: Global, kinds: &[Kind]) -> Result<TypeDecl, NoMemory>
-    ensures { IfOk result (λ type. type ≡ record { kinds = kinds.now; prefinalizers = [] }) }
+    ensures { IfOk result (λ type. type ≡ record { kinds = kinds.now; prefinalizers = []; weak_callbacks = [] }) }
 {
     let fields = Vec::from_slice(alloc, kinds)?;
-    Ok(TypeDecl::new(fields, Vec::new(alloc)))
+    Ok(TypeDecl::new(fields, Vec::new(alloc), Vec::new(alloc)))
 }
 
 fn commands(alloc: Global, seed: u64, count: u32) -> Result<Vec<Command>, NoMemory>

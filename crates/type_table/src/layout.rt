@@ -121,7 +121,7 @@ pub(crate) fn words_of(kind: Kind) -> u32
     }
 }
 
-fn field_words(kinds: &[Kind]) -> u32
+pub(crate) fn field_words(kinds: &[Kind]) -> u32
     requires { length kinds.now ≤ 64 }
     ensures { result ≡ fields.field_words kinds.now }
 {

@@ -3,7 +3,7 @@
 //! What it is: what the type lines of a script declare, and where the fields of each type stand in
 //! an object's words. It knows nothing of any object.
 //!
-//! The parts: `TypeDecl` (the fields and the prefinalizers that a type line declares), `TypeTable`
+//! The parts: `TypeDecl` (the fields, prefinalizers and weak callbacks of a type), `TypeTable`
 //! (all of them, with their layouts worked out, and a law, `fields_stand_apart`), `TracedWord` (a
 //! strong field or a pair, which tracing reads), `TypeFault` (why there is no such table).
 //!

@@ -9,7 +9,7 @@ ghost use Rattle.object_headers.specs.Offsets.{first_field};
 ghost use Rattle.type_table.specs.Types as spec;
 ghost use Rattle.type_table.specs.Layouts as layouts;
 ghost use Rattle.type_table.specs.TracedWords.{traced_words_of};
-ghost use Rattle.type_table.specs.Faults.{AreGoodTypes, IsTypeFault};
+ghost use Rattle.type_table.specs.Faults.{AreGoodTypes, HasMaskedWords, IsTypeFault};
 
 use crate::decl::TypeDecl;
 use crate::faults::{TypeFault, fault_of};
@@ -31,6 +31,7 @@ impl Model for TypeTable {
     ghost use Rattle.std.specs.Prelude.{◌≡◌, ◌≤◌, List, length, All};
     ghost use Rattle.gc_graph.specs.State.{ObjectType};
     ghost use Rattle.type_table.specs.Layouts.{layouts_of};
+    ghost use Rattle.type_table.specs.Faults.{HasMaskedWords};
 
     ghost Value = { List ObjectType };
 
@@ -38,6 +39,7 @@ impl Model for TypeTable {
 
     ghost invariant = { λ t. (length t.types.items ≤ 16383)
         × (All (λ type. length type.kinds ≤ 64) t.types.items)
+        × (All HasMaskedWords t.types.items)
         × (t.layouts.items ≡ layouts_of t.types.items) };
 }
 
@@ -159,10 +161,20 @@ impl TypeTable {
         self.decl(ty).callbacks()
     }
 
+    /// The numbers of the callbacks that are the type's weak callbacks.
+    pub fn weak_callbacks(&self, ty: u32) -> &[u32]
+        requires { ty < length self.now }
+        ensures value { result.now ≡ (spec.type_of self.now ty).weak_callbacks }
+        ensures words { HasMaskedWords (spec.type_of self.now ty) }
+    {
+        self.decl(ty).weak()
+    }
+
     fn decl(&self, ty: u32) -> &TypeDecl
         requires { ty < length self.now }
         ensures value { result.now ≡ spec.type_of self.now ty }
         ensures narrow { length (spec.declared_kinds self.now ty) ≤ 64 }
+        ensures words { HasMaskedWords (spec.type_of self.now ty) }
     {
         &self.types[ty as usize]
     }

@@ -12,7 +12,7 @@ object = record { place = 0; ty = 0; size = 2; serial = 7; fields = [] }
 
 -- the type with one strong field
 abbrev pub strong_type : ObjectType
-strong_type = record { kinds = Strong ∷ []; prefinalizers = [] }
+strong_type = record { kinds = Strong ∷ []; prefinalizers = []; weak_callbacks = [] }
 
 -- an object of this type at a place, as it is published
 abbrev pub holder_at : ℕ → Body

@@ -188,8 +188,8 @@ pub fn two_types(alloc: Global) -> Result<TypeTable, NoMemory>
     ensures { IfOk result (λ types. types ≡ no_type ∷ no_type ∷ []) }
 {
     let mut types = Vec::new(alloc);
-    types.push(TypeDecl::new(Vec::new(alloc), Vec::new(alloc)))?;
-    types.push(TypeDecl::new(Vec::new(alloc), Vec::new(alloc)))?;
+    types.push(TypeDecl::new(Vec::new(alloc), Vec::new(alloc), Vec::new(alloc)))?;
+    types.push(TypeDecl::new(Vec::new(alloc), Vec::new(alloc), Vec::new(alloc)))?;
     let Ok(types) = TypeTable::new(alloc, types, 0) else {
         return Err(NoMemory);
     };

@@ -36,7 +36,7 @@ fn plain_type(alloc: Global) -> Result<TypeTable, NoMemory>
     ensures { IfOk result (λ types. types ≡ no_type ∷ []) }
 {
     let mut types = Vec::new(alloc);
-    types.push(TypeDecl::new(Vec::new(alloc), Vec::new(alloc)))?;
+    types.push(TypeDecl::new(Vec::new(alloc), Vec::new(alloc), Vec::new(alloc)))?;
     let Ok(types) = TypeTable::new(alloc, types, 0) else {
         return Err(NoMemory);
     };

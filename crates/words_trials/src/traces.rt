@@ -53,7 +53,7 @@ fn one_type(alloc: Global) -> Result<TypeTable, NoMemory>
     let mut fields = Vec::new(alloc);
     fields.push(Kind::Strong)?;
     let mut types = Vec::new(alloc);
-    types.push(TypeDecl::new(fields, Vec::new(alloc)))?;
+    types.push(TypeDecl::new(fields, Vec::new(alloc), Vec::new(alloc)))?;
     let Ok(types) = TypeTable::new(alloc, types, 0) else {
         return Err(NoMemory);
     };

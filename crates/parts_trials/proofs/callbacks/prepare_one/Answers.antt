@@ -1,4 +1,4 @@
-use Rattle.std.proofs.Common.{rules, ◌≡◌, ℕ, Option, Some, None, cond, nat_eq, refl, MutBor}
+use Rattle.std.proofs.Common.{rules, ◌≡◌, ℕ, Some, None, cond, nat_eq, refl, MutBor}
 use Rattle.parts_trials.specs.declared.callbacks.OneMask.{OneMask}
 use Rattle.callback_table.specs.Steady.{may_be_asked, stays_known, left_by_rule}
 use Rattle.parts_trials.proofs.callbacks.prepare_one.Goals as goal
