@@ -6,20 +6,20 @@ use Rattle.std.proofs.lemmas.List.Sums.{sum_by_more}
 use Rattle.gc_graph.specs.declared.action.ActionKind.{ActionKind}
 use Rattle.gc_graph.specs.State.{Node}
 use Rattle.callback_table.specs.declared.weak_registry.WeakRegistered.{WeakRegistered}
-use Rattle.callback_table.specs.Masked.{MaskedCall, masked_call, pair_called, called}
+use Rattle.gc_graph.specs.WeakCalls.{WeakCall, weak_call, called}
 use Rattle.callback_table.specs.Registry.{IsRegistered}
-use Rattle.callback_table.specs.WeakRegistry.{WeakRegistration, weak_registration_of, weak_registrations_of, calls_of, calls_in_order, IsWeaklyRegistered}
+use Rattle.callback_table.specs.WeakRegistry.{pair_called, WeakRegistration, weak_registration_of, weak_registrations_of, calls_of, calls_in_order, IsWeaklyRegistered}
 use Rattle.callback_table.proofs.Asked.{callback_count}
 use Rattle.callback_table.proofs.Looks.{LooksAlike, stands_alike}
 use Rattle.callback_table.proofs.Masking.{called-append, called_alike}
 
 -- these calls were made, and are told behind those before
-pub record AreMade (kinds : List ActionKind) (start : List Node) (before : List (ℕ × ℕ)) (calls : List MaskedCall) (nodes : List Node)
+pub record AreMade (kinds : List ActionKind) (start : List Node) (before : List (ℕ × ℕ)) (calls : List WeakCall) (nodes : List Node)
     (ran : List (ℕ × ℕ)) : Type 0 where
   pub nodes_are : nodes ≡ called kinds calls start
   pub ran_are : ran ≡ before ++ map pair_called calls
 
-pub made_on : (kinds : List ActionKind) (start : List Node) (before : List (ℕ × ℕ)) (calls more all : List MaskedCall) (nodes after : List Node)
+pub made_on : (kinds : List ActionKind) (start : List Node) (before : List (ℕ × ℕ)) (calls more all : List WeakCall) (nodes after : List Node)
     (ran ran_then : List (ℕ × ℕ)) → AreMade kinds start before calls nodes ran → after ≡ called kinds more nodes
     → ran_then ≡ ran ++ map pair_called more → all ≡ calls ++ more → AreMade kinds start before all after ran_then
 made_on kinds start before calls more all nodes after ran ran_then made does told are = record {
@@ -33,13 +33,13 @@ made_on kinds start before calls more all nodes after ran ran_then made does tol
 -- ---- the callbacks of one registration
 
 pub callbacks_more : (node mask : ℕ) (callbacks : List ℕ) (i callback : ℕ) → i < length callbacks → callback ≡ get_or callbacks i 0
-    → map (masked_call node mask) (take (i + 1) callbacks) ≡ map (masked_call node mask) (take i callbacks) ++ masked_call node mask callback ∷ []
+    → map (weak_call node mask) (take (i + 1) callbacks) ≡ map (weak_call node mask) (take i callbacks) ++ weak_call node mask callback ∷ []
 callbacks_more node mask callbacks i callback within read =
-    ap (map (masked_call node mask)) (take_more callbacks i 0 within)
-    ∙ map_push (masked_call node mask) (take i callbacks) (get_or callbacks i 0)
-    ∙ ap (λ c. map (masked_call node mask) (take i callbacks) ++ masked_call node mask c ∷ []) (sym read)
+    ap (map (weak_call node mask)) (take_more callbacks i 0 within)
+    ∙ map_push (weak_call node mask) (take i callbacks) (get_or callbacks i 0)
+    ∙ ap (λ c. map (weak_call node mask) (take i callbacks) ++ weak_call node mask c ∷ []) (sym read)
 
-few_calls : (b : Bool) (f : ℕ → MaskedCall) (callbacks : List ℕ) → length (cond b [] (map f callbacks)) ≤ length callbacks
+few_calls : (b : Bool) (f : ℕ → WeakCall) (callbacks : List ℕ) → length (cond b [] (map f callbacks)) ≤ length callbacks
 few_calls true f callbacks = omega arith
 few_calls false f callbacks = omega (arith, length-map callbacks f)
 
@@ -69,7 +69,7 @@ pub fewer_run : (items : List WeakRegistered) (i : ℕ) (entry : WeakRegistered)
     → ran_then ≡ ran ++ map pair_called (calls_of (weak_registration_of entry)) → length ran_then ≤ sum_by callback_count (take (i + 1) items)
 fewer_run items i entry ran ran_then within read few told =
     let few_more : length (calls_of (weak_registration_of entry)) ≤ callback_count entry =
-    few_calls (entry.mask == 0) (masked_call entry.node entry.mask) entry.callbacks.items in
+    few_calls (entry.mask == 0) (weak_call entry.node entry.mask) entry.callbacks.items in
     let as_many : callback_count entry ≡ callback_count (get_or items i entry) = ap callback_count read in
     omega (
       arith,
@@ -87,7 +87,7 @@ registered_at IsKnown items i entry within read all =
     subst IsKnown (get_or-map weak_registration_of items i entry (weak_registration_of entry) within ∙ ap weak_registration_of (sym read))
     (all i (weak_registration_of entry) (omega (arith, length-map items weak_registration_of)))
 
-pub weakly_registered_now : (kinds : List ActionKind) (callbacks : ℕ) (start nodes : List Node) (before ran : List (ℕ × ℕ)) (calls : List MaskedCall)
+pub weakly_registered_now : (kinds : List ActionKind) (callbacks : ℕ) (start nodes : List Node) (before ran : List (ℕ × ℕ)) (calls : List WeakCall)
     (entry : WeakRegistration) → AreMade kinds start before calls nodes ran → IsWeaklyRegistered start callbacks entry
     → IsWeaklyRegistered nodes callbacks entry
 weakly_registered_now kinds callbacks start nodes before ran calls entry made then = record {

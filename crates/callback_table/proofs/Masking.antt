@@ -5,7 +5,7 @@ use Rattle.gc_graph.specs.declared.action.ActionKind.{ActionKind}
 use Rattle.gc_graph.specs.State.{Node, Registration, node_at}
 use Rattle.gc_graph.specs.Actions.{acted, action_of, shown_words}
 use Rattle.gc_graph.specs.Pause.{kind_of_callback, prefinalised}
-use Rattle.callback_table.specs.Masked.{MaskedCall, shown_under, masked_call, called}
+use Rattle.gc_graph.specs.WeakCalls.{WeakCall, shown_under, weak_call, called}
 use Rattle.callback_table.proofs.Looks.{LooksAlike, alike_same, alike_on, acted_alike}
 
 pub shown_under_none : (words : List ℕ) → shown_under 0 words ≡ words
@@ -26,14 +26,14 @@ one_more_shown mask rest start words i word within is so_far after set_is =
 
 -- ---- calls one after the other
 
-pub called-append : (kinds : List ActionKind) (first second : List MaskedCall) (nodes : List Node)
+pub called-append : (kinds : List ActionKind) (first second : List WeakCall) (nodes : List Node)
     → called kinds (first ++ second) nodes ≡ called kinds second (called kinds first nodes)
 called-append kinds [] second nodes = refl
 called-append kinds (c ∷ first) second nodes =
     called-append kinds first second
     (acted nodes c.node (action_of (kind_of_callback kinds c.callback) (shown_under c.mask (shown_words (node_at nodes c.node)))))
 
-pub called_alike : (kinds : List ActionKind) (calls : List MaskedCall) (nodes : List Node) → LooksAlike nodes (called kinds calls nodes)
+pub called_alike : (kinds : List ActionKind) (calls : List WeakCall) (nodes : List Node) → LooksAlike nodes (called kinds calls nodes)
 called_alike kinds [] nodes = alike_same nodes
 called_alike kinds (c ∷ more) nodes =
     let action = action_of (kind_of_callback kinds c.callback) (shown_under c.mask (shown_words (node_at nodes c.node))) in
@@ -43,8 +43,8 @@ called_alike kinds (c ∷ more) nodes =
 -- ---- prefinalizers
 
 -- the call of a prefinalizer
-abbrev pub unmasked : Registration → MaskedCall
-unmasked r = masked_call r.node 0 r.callback
+abbrev pub unmasked : Registration → WeakCall
+unmasked r = weak_call r.node 0 r.callback
 
 pub prefinalised_is_called : (kinds : List ActionKind) (rs : List Registration) (nodes : List Node)
     → prefinalised kinds rs nodes ≡ called kinds (map unmasked rs) nodes

@@ -2,7 +2,8 @@ pub mod Answers
 pub mod Table
 pub mod Bodies
 pub mod Registry
-pub mod Masked
 pub mod Asking
 pub mod WeakRegistry
+pub mod Registrations
+pub mod LastRegistrations
 pub mod Steady

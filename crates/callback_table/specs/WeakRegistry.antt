@@ -1,9 +1,9 @@
 -- The registrations of weak callbacks with the places of their nodes.
 use Rattle.std.specs.Prelude.{◌≡◌, ℕ, ◌<◌, ◌==◌, List, [], ◌∷◌, Option, Some, None, All, map, flat_map, if◌then◌else◌}
 use Rattle.gc_graph.specs.State.{Node}
+use Rattle.gc_graph.specs.WeakCalls.{WeakCall, weak_call}
 use Rattle.callback_table.specs.Asking.{AnswersInTurn}
 use Rattle.callback_table.specs.Bodies.{StandsAt}
-use Rattle.callback_table.specs.Masked.{MaskedCall, masked_call, pair_called}
 use Rattle.callback_table.specs.declared.weak_registry.WeakRegistered.{WeakRegistered}
 
 -- the weak callbacks of a node at a place, and the mask under which they are shown its words
@@ -52,12 +52,16 @@ pub record AreLeftByAnswers {F : Type 0} (step : F → ℕ → Option ℕ → F 
   pub left : new ≡ left_by answers old
 
 -- the calls of a registration in the order of its callbacks; none where no word is masked
-abbrev pub calls_of : WeakRegistration → List MaskedCall
-calls_of entry = if entry.mask == 0 then [] else map (masked_call entry.node entry.mask) entry.callbacks
+abbrev pub calls_of : WeakRegistration → List WeakCall
+calls_of entry = if entry.mask == 0 then [] else map (weak_call entry.node entry.mask) entry.callbacks
 
 -- the calls of all registrations, in their order
-abbrev pub calls_in_order : List WeakRegistration → List MaskedCall
+abbrev pub calls_in_order : List WeakRegistration → List WeakCall
 calls_in_order entries = flat_map calls_of entries
+
+-- the node and the callback of a call
+abbrev pub pair_called : WeakCall → ℕ × ℕ
+pair_called c = (c.node, c.callback)
 
 -- the node and the callback of each of these calls
 abbrev pub pairs_called : List WeakRegistration → List (ℕ × ℕ)

@@ -7,7 +7,7 @@
 //! The parts: `Callback` (a call, and the kind of action that it is known to answer),
 //! `CallbackTable` (callbacks by number), `Bodies` (what is asked of the objects), `Registry` (which
 //! prefinalizers are to run for which object, and their running), `WeakRegistry` (the same of weak
-//! callbacks). `Action` and `ActionKind` are those of the graph.
+//! callbacks), `Registrations` (both as one value). `Action` and `ActionKind` are those of the graph.
 //!
 //! What is proved: a callback answers the action of its kind to every list of at most 64 words,
 //! wherever it is kept; registrations are made, placed and taken away as they are asked for; those
@@ -24,6 +24,7 @@ mod bodies;
 mod callback;
 mod calls;
 mod masked;
+mod registrations;
 mod registry;
 mod running;
 mod table;
@@ -33,6 +34,7 @@ mod weak_running;
 pub use bodies::Bodies;
 pub use callback::Callback;
 pub use gc_graph::{Action, ActionKind};
+pub use registrations::{LastRegistered, Registrations};
 pub use registry::Registry;
 pub use table::CallbackTable;
 pub use weak_registry::WeakRegistry;

@@ -1,7 +1,7 @@
 // Running a callback on the words of an object, some of which are masked.
 
 ghost use Rattle.std.specs.Prelude.{◌≡◌, [], ◌∷◌, length};
-ghost use Rattle.callback_table.specs.Masked.{shown_under, masked_call, called};
+ghost use Rattle.gc_graph.specs.WeakCalls.{shown_under, weak_call, called};
 ghost use Rattle.callback_table.specs.Registry.{IsRegistered};
 ghost use Rattle.callback_table.specs.Table.{callback_kinds};
 
@@ -21,7 +21,7 @@ pub(crate) fn run<B: Bodies>(
     requires registered { IsRegistered (B.nodes bodies.old)
         (length (callback_kinds table.now)) entry }
     ensures nodes { B.nodes bodies.new ≡ called (callback_kinds table.now)
-        (masked_call entry.node mask entry.callback ∷ [])
+        (weak_call entry.node mask entry.callback ∷ [])
         (B.nodes bodies.old) }
     ensures ready { B.is_ready bodies.new }
     ensures rest { B.keeps bodies.old bodies.new }

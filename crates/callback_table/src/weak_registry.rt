@@ -1,6 +1,6 @@
 // The registrations of weak callbacks (`WeakCallback`, `include/cppgc/visitor.h`).
 
-ghost use Rattle.std.specs.Prelude.{◌≡◌, ◌-◌, ◌<◌, [], ◌∷◌, ◌++◌, OnOk, OnErr, length, map, take};
+ghost use Rattle.std.specs.Prelude.{◌≡◌, ◌-◌, ◌<◌, ◌≤◌, [], ◌∷◌, ◌++◌, OnOk, OnErr, length, map, take};
 ghost use Rattle.std.specs.Prelude.{drop, if◌then◌else◌};
 ghost use Rattle.callback_table.specs.Asking.{MayBeAsked};
 ghost use Rattle.callback_table.specs.WeakRegistry.{WeakRegistryView, weakly_registered};
@@ -11,6 +11,9 @@ use crate::registry::reserve_ran;
 use gc_graph::NoMemory;
 use std::alloc::Global;
 use std::marker::Model;
+
+/// How many callbacks can be registered in all.
+const MOST_CALLS: usize = 4_294_967_295;
 
 /// The weak callbacks of the node at the place, and the mask that it was given last.
 #[derive(Drop)]
@@ -39,7 +42,8 @@ impl Model for WeakRegistry {
     ghost view = { λ r. record { entries = weak_registrations_of r.entries.items; ran = r.ran.items } };
 
     ghost invariant = { λ r. (r.calls ≡ sum_by (λ entry. length entry.callbacks.items) r.entries.items)
-        × (r.calls ≤ vec_capacity r.ran) };
+        × (r.calls ≤ vec_capacity r.ran) × (r.calls ≤ 4294967295)
+        × (length r.ran.items ≤ 4294967295) };
 }
 
 impl WeakRegistry {
@@ -55,13 +59,16 @@ impl WeakRegistry {
     }
 
     /// Registers the weak callbacks of the node at the place (`Visitor::RegisterWeakCallback`,
-    /// `include/cppgc/visitor.h`). Want of memory is free.
+    /// `include/cppgc/visitor.h`). Want of memory is free; over 4,294,967,295 callbacks find none.
     pub fn register(&mut self, node: u32, place: u32, callbacks: &[u32]) -> Result<(), NoMemory>
         ensures entries { OnOk result (self.new.entries
             ≡ self.old.entries ++ weakly_registered node place callbacks.now ∷ []) }
         ensures ran { self.new.ran ≡ self.old.ran }
         ensures full { OnErr result (self.new ≡ self.old) }
     {
+        if callbacks.len() > MOST_CALLS - self.calls {
+            return Err(NoMemory);
+        }
         self.entries.reserve(1)?;
         // Each callback may be run, and has its room in what ran.
         let calls = self.calls + callbacks.len();
@@ -124,7 +131,8 @@ impl WeakRegistry {
 
     /// The node and the callback of each that the last `run` ran, in the order in which they ran.
     pub fn ran(&self) -> &[(u32, u32)]
-        ensures { result.now ≡ self.now.ran }
+        ensures ran { result.now ≡ self.now.ran }
+        ensures few { length result.now ≤ 4294967295 }
     {
         &self.ran
     }

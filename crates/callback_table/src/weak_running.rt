@@ -1,10 +1,10 @@
 // Running the weak callbacks of objects of which a weak field is cleared.
 
 ghost use Rattle.std.specs.Prelude.{◌≡◌, ◌<◌, ◌≤◌, ◌+◌, ◌++◌, All, length, map, vec_capacity};
-ghost use Rattle.callback_table.specs.Masked.{pair_called, called};
+ghost use Rattle.gc_graph.specs.WeakCalls.{called};
 ghost use Rattle.callback_table.specs.Table.{callback_kinds};
 ghost use Rattle.callback_table.specs.WeakRegistry.{IsWeaklyRegistered, weak_registration_of};
-ghost use Rattle.callback_table.specs.WeakRegistry.{calls_of, calls_in_order, pairs_called};
+ghost use Rattle.callback_table.specs.WeakRegistry.{calls_of, calls_in_order, pairs_called, pair_called};
 
 use crate::bodies::Bodies;
 use crate::masked::run;

@@ -1,6 +1,6 @@
 use Rattle.std.proofs.Common.{◌∙◌, sym, ap, subst}
 use Rattle.callback_table.specs.Bodies.{StandsAt}
-use Rattle.callback_table.specs.Masked.{shown_under}
+use Rattle.gc_graph.specs.WeakCalls.{shown_under}
 use Rattle.callback_table.proofs.Answering.{does}
 use Rattle.callback_table.proofs.masked.run.Goals as goal
 

@@ -1,5 +1,5 @@
 use Rattle.std.proofs.Common.{◌≡◌, ◌++◌, take, drop}
-use Rattle.callback_table.specs.Masked.{shown_under}
+use Rattle.gc_graph.specs.WeakCalls.{shown_under}
 use Rattle.callback_table.proofs.masked.show_under.Given as goal
 
 abbrev pub invariant-loop-word : goal.invariant-loop-word
