@@ -7,6 +7,8 @@ pub mod BodyReferences
 pub mod PairReferences
 pub mod WeakBodies
 pub mod WeakJudged
+pub mod WeakMasks
+pub mod WeakEntries
 pub mod PreparedNodes
 pub mod PausedNodes
 pub mod MayMarks

@@ -12,8 +12,10 @@ use Rattle.gc_graph.specs.State.Life.{Live, Dead, Gone}
 use Rattle.gc_graph.specs.Valid.{IsTyped}
 use Rattle.gc_graph.specs.Pause.{judged, condemn, live_count, dead_count, dies, run_order, prefinalised}
 use Rattle.gc_graph.specs.ActionLaw.{AreTyped, HaveStayed}
+use Rattle.gc_graph.specs.WeakCalls.{WeakCall, weak_calls, called}
 use Rattle.callback_table.specs.declared.registry.Registered.{Registered}
 use Rattle.callback_table.specs.Registry.{IsRegistered, RegistryView, registration_of, registrations_of, pair_of, pairs_run, entries_left}
+use Rattle.callback_table.specs.WeakRegistry.{WeakRegistryView, pair_called}
 use Rattle.mark_worklist.specs.declared.marking.Marking.{Marking}
 use Rattle.marker_core.specs.declared.states.Body.{Body}
 use Rattle.marker_core.specs.Bodies.{holds}
@@ -32,6 +34,7 @@ use Rattle.cross_thread_region.specs.declared.chronicle.PlacedEntry.{PlacedEntry
 use Rattle.cross_thread_region.specs.Histories.{strong_place}
 use Rattle.atomic_pause.specs.Marking.{IsScanned, IsSharedPlace, IsRootPlace, IsMayOrRoot, IsMarkedIn, MarksReachable, marked_count, with_may}
 use Rattle.atomic_pause.specs.Pausing.{IsKeptBetween, IsPaused}
+use Rattle.atomic_pause.specs.WeakCalling.{AreOfHolders}
 use Rattle.atomic_pause.proofs.HeldNodes.{judged_after}
 use Rattle.atomic_pause.proofs.PreparedNodes.{typed_after, all_named}
 use Rattle.atomic_pause.proofs.WeakJudged.{IsMarked, both_cleared, marked_is, held_after, space_marked, space_cleared, judged_cleared}
@@ -181,21 +184,27 @@ same_left kept nodes entries =
     filter_agree (λ e. not (dies (nodes_after kept nodes) (registration_of e))) (λ e. not (dies (condemn kept nodes) (registration_of e)))
     (λ e. ap not (same_deaths kept nodes (registration_of e))) entries
 
--- what was kept, and what prefinalizers made of it
-pub paused_is : (callbacks : List ActionKind) (least most : List ℕ) (kept : List Bool) (old judged_nodes new : List Node) (before after : RegistryView)
-    → IsKeptBetween old least most kept → judged_nodes ≡ nodes_after kept old
-    → new ≡ prefinalised callbacks (run_order judged_nodes (registrations_of before.entries)) judged_nodes → HaveStayed judged_nodes new
-    → after.entries ≡ entries_left judged_nodes before.entries → after.ran ≡ pairs_run judged_nodes before.entries
-    → IsPaused callbacks least most old new before after
-paused_is callbacks least most kept old judged_nodes new before after between is nodes stayed left ran =
+-- what was kept, and what callbacks made of it
+pub paused_is : (callbacks : List ActionKind) (types : List ObjectType) (least most : List ℕ) (kept : List Bool) (old judged_nodes new : List Node)
+    (before after : RegistryView) (weak_after : WeakRegistryView) → IsKeptBetween old least most kept → judged_nodes ≡ nodes_after kept old
+    → new
+    ≡ prefinalised callbacks (run_order judged_nodes (registrations_of before.entries))
+    (called callbacks (weak_calls types (condemn kept old)) judged_nodes)
+    → HaveStayed judged_nodes new → after.entries ≡ entries_left judged_nodes before.entries → after.ran ≡ pairs_run judged_nodes before.entries
+    → AreOfHolders types new weak_after.entries → weak_after.ran ≡ map pair_called (weak_calls types (condemn kept old))
+    → IsPaused callbacks types least most old new before after weak_after
+paused_is callbacks types least most kept old judged_nodes new before after weak_after between is nodes stayed left ran weak_left weak_ran =
+    let calls : List WeakCall = weak_calls types (condemn kept old) in
     let order : (ns : List Node) → ns ≡ nodes_after kept old → run_order ns (registrations_of before.entries) ≡ run_order (condemn kept old) (registrations_of before.entries) =
     λ ns same. ap (λ (ms : List Node). run_order ms (registrations_of before.entries)) same ∙ same_order kept old (registrations_of before.entries) in
     record {
       kept = kept;
       between = between;
-      nodes_are = nodes ∙ ap (λ rs. prefinalised callbacks rs judged_nodes) (order judged_nodes is)
-          ∙ ap (prefinalised callbacks (run_order (condemn kept old) (registrations_of before.entries))) is;
+      nodes_are = nodes ∙ ap (λ rs. prefinalised callbacks rs (called callbacks calls judged_nodes)) (order judged_nodes is)
+          ∙ ap (λ (ns : List Node). prefinalised callbacks (run_order (condemn kept old) (registrations_of before.entries)) (called callbacks calls ns)) is;
       stayed = subst (λ (ns : List Node). HaveStayed ns new) is stayed;
       left = left ∙ ap (λ (ns : List Node). entries_left ns before.entries) is ∙ same_left kept old before.entries;
       ran = ran ∙ ap (λ rs. map pair_of rs) (order judged_nodes is);
+      weak_left = weak_left;
+      weak_ran = weak_ran;
     }

@@ -41,7 +41,7 @@ cleared_word nodes marked f dead bound (Ref n) tells is live =
 cleared_word nodes marked f dead bound (Word w) tells is live = absurd is
 
 -- whether a value names what is not marked
-names_word : (nodes : List Node) (marked : List ℕ) (f : ℕ → ℕ) (dead : ℕ → Bool) (bound : ℕ) (v : Value) → TellsUnmarked nodes marked f dead
+pub names_word : (nodes : List Node) (marked : List ℕ) (f : ℕ → ℕ) (dead : ℕ → Bool) (bound : ℕ) (v : Value) → TellsUnmarked nodes marked f dead
     → IsReferenceBelow bound v → NamesLive nodes v → names_unmarked marked (word_of f v) ≡ names_dead dead v
 names_word nodes marked f dead bound Null tells is live = refl
 names_word nodes marked f dead bound (Ref n) tells is live =

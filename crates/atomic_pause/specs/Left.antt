@@ -20,6 +20,10 @@ weak_left x = x.1.1.1.0
 abbrev pub registry_left : {A B C D E F : Type 0} → A × (B × (C × (D × (E × F)))) → E
 registry_left x = x.1.1.1.1.0
 
+-- the registered weak callbacks
+abbrev pub weak_calls_left : {A B C D E F G : Type 0} → A × (B × (C × (D × (E × (F × G))))) → F
+weak_calls_left x = x.1.1.1.1.1.0
+
 -- the owner's pass
-abbrev pub pass_left : {A B C D E F G : Type 0} → A × (B × (C × (D × (E × (F × G))))) → F
-pass_left x = x.1.1.1.1.1.0
+abbrev pub pass_left : {A B C D E F G H : Type 0} → A × (B × (C × (D × (E × (F × (G × H)))))) → G
+pass_left x = x.1.1.1.1.1.1.0

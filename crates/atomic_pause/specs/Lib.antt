@@ -1,8 +1,10 @@
 pub mod Marking
+pub mod WeakCalling
 pub mod Pausing
 pub mod Left
 -- Lemmas that the crates above cite too, since a crate's proofs/ can't be cited from another.
 pub mod MembersOf
+pub mod WeakHolders
 -- Words of the crates below that the crates above name too.
 pub use Rattle.ephemerons.specs.Accounted
 pub use Rattle.ephemerons.specs.Fixpoint

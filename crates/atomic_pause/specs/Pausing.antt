@@ -1,14 +1,15 @@
--- What a pause does to the nodes: which it keeps, which it condemns, and what their prefinalizers do.
-use Rattle.std.specs.Prelude.{◌≡◌, ◌⊎◌, ℕ, ◌-◌, ◌<◌, ◌++◌, Bool, true, false, List, [], length, filter, take, All, Contains, Option}
+-- What a pause does to the nodes: which it keeps, which it condemns, and what callbacks do.
+use Rattle.std.specs.Prelude.{◌≡◌, ◌⊎◌, ℕ, ◌-◌, ◌<◌, ◌++◌, Bool, true, false, List, [], length, map, filter, take, All, Contains, Option}
 use Rattle.std.specs.List.{list_any, range_with_len}
 use Rattle.gc_graph.specs.declared.action.ActionKind.{ActionKind}
 use Rattle.gc_graph.specs.Graph.{has, IsClosed, IsWithin}
 use Rattle.gc_graph.specs.Reach.{Reach}
 use Rattle.gc_graph.specs.declared.region.Op.TheVariants as O
-use Rattle.gc_graph.specs.State.{Node, node_at, graph_of, slot_targets, strong_region_targets, IsLive}
+use Rattle.gc_graph.specs.State.{ObjectType, Node, node_at, graph_of, slot_targets, strong_region_targets, IsLive}
 use Rattle.gc_graph.specs.May.{has_word}
 use Rattle.gc_graph.specs.Valid.{AreLive, region_targets}
 use Rattle.gc_graph.specs.Pause.{condemn, dying_slots, run_order, prefinalised}
+use Rattle.gc_graph.specs.WeakCalls.{weak_calls, called}
 use Rattle.gc_graph.specs.History.{IsLegal, NamesWeakSlots}
 use Rattle.gc_graph.specs.Outcomes.{IsThreadOp}
 use Rattle.gc_graph.specs.ActionLaw.{HaveStayed}
@@ -16,12 +17,15 @@ use Rattle.cross_thread_region.specs.Calls.{RegionView, PassView, IsPassReady, h
 use Rattle.cross_thread_region.specs.declared.chronicle.PlacedEntry.{PlacedEntry}
 use Rattle.cross_thread_region.specs.Histories.{entries_of, slots_of, is_started, IsPlacedBy}
 use Rattle.callback_table.specs.Registry.{registrations_of, pairs_run, entries_left, RegistryView}
+use Rattle.callback_table.specs.WeakRegistry.{WeakRegistryView, pair_called}
+use Rattle.callback_table.specs.declared.registry.Registered.{Registered}
 use Rattle.marker_core.specs.Bodies.{holds}
 use Rattle.page_words.specs.Seat.{SeatView}
 use Rattle.prefinalizer_effects.specs.KeyNodes.{IsKeyIn}
 use Rattle.prefinalizer_effects.specs.Nodes.{place_of}
 use Rattle.prefinalizer_effects.specs.PlacesInWords.{places_of_slots}
 use Rattle.prefinalizer_effects.specs.Judgement.{nodes_after}
+use Rattle.atomic_pause.specs.WeakCalling.{AreOfHolders}
 
 -- the slots name live nodes, and these are the places of what they name
 pub record NamePlaces (nodes : List Node) (slots places : List (Option ℕ)) : Type 0 where
@@ -49,15 +53,28 @@ pub record IsKeptBetween (nodes : List Node) (least most : List ℕ) (kept : Lis
   pub bounded : IsWithin kept (Reach (graph_of nodes) most)
   pub low : (n : ℕ) → has kept n ≡ true → n < length nodes
 
--- a set between these bounds was kept, the other nodes were condemned, what is weak and named one of these is null, and the
--- prefinalizers of these ran, the last that was registered first, and are gone
-pub record IsPaused (callbacks : List ActionKind) (least most : List ℕ) (old new : List Node) (before after : RegistryView) : Type 0 where
+-- what the callbacks of a pause leave of the nodes that it kept: first the weak ones ran, then the prefinalizers of the condemned,
+-- the last that was registered first
+abbrev pub called_back : List ActionKind → List ObjectType → List Bool → List Registered → List Node → List Node
+called_back callbacks types kept entries old =
+    prefinalised callbacks (run_order (condemn kept old) (registrations_of entries))
+    (called callbacks (weak_calls types (condemn kept old)) (nodes_after kept old))
+
+-- a set between these bounds was kept, the other nodes were condemned, and what is weak and named one of these is null; the weak
+-- callbacks of kept nodes ran, and the prefinalizers of the condemned, which are gone; of the weak callbacks, those of kept nodes
+-- stay registered
+pub record IsPaused
+    (callbacks : List ActionKind) (types : List ObjectType) (least most : List ℕ) (old new : List Node)
+    (before after : RegistryView) (weak_after : WeakRegistryView)
+    : Type 0 where
   pub kept : List Bool
   pub between : IsKeptBetween old least most kept
-  pub nodes_are : new ≡ prefinalised callbacks (run_order (condemn kept old) (registrations_of before.entries)) (nodes_after kept old)
+  pub nodes_are : new ≡ called_back callbacks types kept before.entries old
   pub stayed : HaveStayed (nodes_after kept old) new
   pub left : after.entries ≡ entries_left (condemn kept old) before.entries
   pub ran : after.ran ≡ pairs_run (condemn kept old) before.entries
+  pub weak_left : AreOfHolders types new weak_after.entries
+  pub weak_ran : weak_after.ran ≡ map pair_called (weak_calls types (condemn kept old))
 
 -- the node is kept, or it is the key of a pair of a kept node, as the fields were before
 abbrev pub IsKeptOrKey : List Node → List Node → ℕ → Type 0

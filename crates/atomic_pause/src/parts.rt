@@ -1,6 +1,6 @@
 // What a pause works on, and what it answers.
 
-use callback_table::{CallbackTable, Registry};
+use callback_table::{CallbackTable, Registry, WeakRegistry};
 use cross_thread_region::{Pass, Region};
 use ghost_values::GhostValue;
 use mark_worklist::Marking;
@@ -19,6 +19,7 @@ use weak_clearing::Space;
 /// | `marking` | the owner's marking state |
 /// | `weak` | weak slots |
 /// | `registry` | the registered prefinalizers |
+/// | `weak_calls` | the registered weak callbacks |
 /// | `pass` | the owner's pass of the region |
 ///
 /// | lent to be read | what it is |
@@ -27,7 +28,7 @@ use weak_clearing::Space;
 /// | `types` | the types of the objects |
 /// | `strong` | strong slots |
 /// | `region` | the slots that threads share |
-/// | `callbacks` | what prefinalizers do |
+/// | `callbacks` | what callbacks do |
 ///
 /// | told | what it is |
 /// |---|---|
@@ -38,6 +39,7 @@ pub struct Parts<'a> {
     pub marking: &'a mut Marking,
     pub weak: &'a mut Slots,
     pub registry: &'a mut Registry,
+    pub weak_calls: &'a mut WeakRegistry,
     pub pass: &'a mut Pass,
     pub space: &'a Space,
     pub types: &'a TypeTable,

@@ -24,14 +24,16 @@ ghost use Rattle.atomic_pause.specs.Pausing.{NamePlaces, IsMayWithin, hits_in};
 ghost use Rattle.atomic_pause.specs.Pausing.{IsPaused, IsPlaceOfKept};
 ghost use Rattle.atomic_pause.specs.Pausing.{IsPausable, IsPausedRegion, shared_roots};
 ghost use Rattle.atomic_pause.specs.Left.{seat_left, nodes_left, marking_left};
-ghost use Rattle.atomic_pause.specs.Left.{weak_left, registry_left, pass_left};
+ghost use Rattle.atomic_pause.specs.Left.{weak_left, registry_left};
+ghost use Rattle.atomic_pause.specs.Left.{weak_calls_left, pass_left};
+ghost use Rattle.atomic_pause.specs.WeakCalling.{AreOfHolders, MayCallBack};
 
 use crate::clearing::clear_weak;
 use crate::closing::is_refused;
 use crate::judging::judged;
 use crate::marking::mark_out;
 use crate::parts::{Parts, PauseResult};
-use crate::prefinalizing::prefinalise;
+use crate::prefinalizing::call_back;
 use crate::region_clearing::clear_region;
 use ephemerons::Pairs;
 use std::sync::Wait;
@@ -67,17 +69,21 @@ pub fn pause<R: Wait>(
     requires weak { All (IsPlace parts.seat.now.bodies) (taken parts.weak.now) }
     requires registered { All (IsRegistered parts.nodes.now.value
         (length (callback_kinds parts.callbacks.now))) parts.registry.now.entries }
+    requires called { MayCallBack (length (callback_kinds parts.callbacks.now)) parts.types.now }
+    requires weakly_registered { AreOfHolders parts.types.now parts.nodes.now.value
+        parts.weak_calls.now.entries }
     requires shared { IsPausable parts.nodes.now.value parts.region.now parts.pass.now }
     ensures paused { (slots : List (Option ℕ)) (may : List Bool) →
         NamePlaces parts.entry.nodes.now.value slots parts.entry.strong.now →
         IsMayWithin parts.entry.nodes.now.value parts.entry.seat.now may →
-        IsPaused (callback_kinds parts.entry.callbacks.now)
+        IsPaused (callback_kinds parts.entry.callbacks.now) parts.entry.types.now
         (slot_targets slots ++ shared_roots (pass_left parts.exit).now
         ++ hits_in precise parts.entry.nodes.now.value stack.now)
         (members may ++ shared_roots (pass_left parts.exit).now
         ++ hits_in precise parts.entry.nodes.now.value stack.now)
         parts.entry.nodes.now.value (nodes_left parts.exit).now.value
-        parts.entry.registry.now (registry_left parts.exit).now }
+        parts.entry.registry.now (registry_left parts.exit).now
+        (weak_calls_left parts.exit).now }
     ensures weak { (slots : List (Option ℕ)) →
         NamePlaces parts.entry.nodes.now.value slots parts.entry.weak.now →
         (weak_left parts.exit).now ≡ places_of_slots (nodes_left parts.exit).now.value
@@ -118,6 +124,7 @@ pub fn pause<R: Wait>(
         marking,
         weak,
         registry,
+        weak_calls,
         pass,
         space,
         types,
@@ -133,10 +140,10 @@ pub fn pause<R: Wait>(
         space, types, seat, marking, notes, strong, &held, stack, precise,
     );
     seat.bodies_lie_apart();
-    clear_weak(space, types, seat, weak);
+    clear_weak(space, types, seat, weak, weak_calls);
     clear_region(space, seat, region, pass, held);
     *nodes = judged(nodes, seat);
-    prefinalise(registry, callbacks, space, types, seat, nodes);
+    call_back(registry, weak_calls, callbacks, space, types, seat, nodes);
     let kept = traced + more;
     PauseResult {
         kept,

@@ -58,7 +58,7 @@ impl<'a> Bodies for PausedBodies<'a> {
       nodes = refl;
       space = refl;
       types = refl;
-      stayed = record { count = refl; place = λ n. refl; life = λ n. refl };
+      stayed = record { count = refl; place = λ n. refl; life = λ n. refl; ty = λ n. refl };
       extents = refl;
       looked = starts_with_of_eq o.seat.now.looked o.seat.now.looked refl;
       early = refl;
@@ -74,6 +74,7 @@ impl<'a> Bodies for PausedBodies<'a> {
         count = b.stayed.count ∙ a.stayed.count;
         place = λ n. b.stayed.place n ∙ a.stayed.place n;
         life = λ n. b.stayed.life n ∙ a.stayed.life n;
+        ty = λ n. b.stayed.ty n ∙ a.stayed.ty n;
       };
       extents = b.extents ∙ a.extents;
       looked = starts_with_trans
