@@ -14,6 +14,7 @@ use Rattle.gc_graph.specs.State.{Shape, State, graph_of}
 use Rattle.gc_graph.specs.Sweep.{SweepsInPhase, SweepsToEnd}
 use Rattle.gc_graph.specs.Valid.{IsValid}
 use Rattle.gc_graph.specs.ValidLaw.{OrdersKeepValid}
+use Rattle.heap_roots.specs.FieldNodes.{holders_same}
 use Rattle.heap_roots.specs.Sweeping.{cursor_at}
 use Rattle.cross_thread_region.specs.declared.chronicle.PlacedEntry.{PlacedEntry}
 use Rattle.cross_thread_region.specs.Histories.{entries_of, slots_of, IsPlacedBy}
@@ -79,6 +80,7 @@ tied_region s r tied = record {
   weak = tied.weak;
   stack = tied.stack;
   registered = tied.registered;
+  weakly = tied.weakly;
   sweep = tied.sweep;
   marks = tied.marks;
   traced = tied.traced;
@@ -117,7 +119,7 @@ module _ (s : Parts) (o : ObjectsView) (r : OwnedView) (ready : IsReady s) (regi
       let marks : HasMarks s.cycle.phase limit s.cycle.rest.may o =
       subst (λ may. HasMarks s.cycle.phase limit may o) (may_calm (state_of s) (piece_of s.region r) calm)
       (looked.marks (state_of s) limit refl refl ready.tied.marks) in
-      tied_nodes s now s.cycle ready.tied (λ n. (refl, refl)) refl refl ready.tied.sweep
+      tied_nodes s now s.cycle ready.tied (λ n. (refl, refl)) refl refl (holders_same s.objects.nodes) refl ready.tied.sweep
       (subst (HasMarks s.cycle.phase limit s.cycle.rest.may) looked.others marks) ready.tied.traced ready.tied.made
 
   pub entered_ready : OrdersKeepValid → IsReady entered_parts

@@ -13,7 +13,8 @@ use Rattle.gc_graph.specs.Sweep.{SweepsToEnd}
 use Rattle.heap_roots.specs.Finished.{Finished}
 use Rattle.heap_roots.specs.Refused.{RefusalsTold}
 use Rattle.heap_cycle.specs.Cycles.{pause_line}
-use Rattle.heap_cycle.specs.Printed.{Printed, lines_with, ran_lines}
+use Rattle.heap_cycle.specs.Printed.{Printed, count_ran, lines_with, ran_lines}
+use Rattle.heap_cycle.specs.Views.{Ran}
 use Rattle.heap_cycle.specs.Walks.{refused_before}
 use Rattle.heap_cycle.proofs.OutcomeLines.{all_told}
 use Rattle.heap_cycle.proofs.StartSteps.{on_false, on_true}
@@ -50,14 +51,14 @@ step_finished setup want s u piece lines pause_lines marks allowed pause printed
     (u, subst (λ ls. IsPause setup setup.markers want s piece ls u) (sym printed) pause, refl) in
     on_true (is_marking s.phase) _ _ marks (on_false (is_stack_refused want s.stack) _ _ allowed finished)
 
--- a command whose pause ran these prefinalizers prints the pause's lines behind those of what it finalised
-pub pause_told : (out : Printed) (last : Option Line) (room : ℕ) (before numbers : List ℕ) (told ran : List (ℕ × ℕ)) (result : Finished) (line : Line)
-    → before ≡ numbers → out ≡ record { numbers = before; last = last; prefinalises = not (length told == 0); room = room } → told ≡ ran
+-- a command whose pause ran these callbacks prints the pause's lines behind those of what it finalised
+pub pause_told : (out : Printed) (last : Option Line) (room : ℕ) (before numbers : List ℕ) (told ran : Ran) (result : Finished) (line : Line)
+    → before ≡ numbers → out ≡ record { numbers = before; last = last; calls_back = not (count_ran told == 0); room = room } → told ≡ ran
     → line ≡ pause_line result → lines_with out ran line ≡ finalise_lines numbers ++ pause_line result ∷ ran_lines true ran
 pause_told out last room before numbers told ran result line finalised outcome same is =
     ap (λ (o : Printed). lines_with o ran line) outcome
-    ∙ ap (λ ns. finalise_lines ns ++ line ∷ ran_lines (not (length told == 0)) ran) finalised
-    ∙ ap (λ rs. finalise_lines numbers ++ line ∷ ran_lines (not (length rs == 0)) ran) same
+    ∙ ap (λ ns. finalise_lines ns ++ line ∷ ran_lines (not (count_ran told == 0)) ran) finalised
+    ∙ ap (λ rs. finalise_lines numbers ++ line ∷ ran_lines (not (count_ran rs == 0)) ran) same
     ∙ ap (λ ls. finalise_lines numbers ++ line ∷ ls) (all_told ran) ∙ ap (λ l. finalise_lines numbers ++ l ∷ ran_lines true ran) is
 
 -- ---- phases

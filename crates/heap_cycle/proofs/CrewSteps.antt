@@ -2,6 +2,8 @@
 use Rattle.std.proofs.Common.{◌≡◌, List, length, refl, sym, ap, ◌∙◌, subst, arith}
 use Rattle.gc_graph.specs.declared.phase.Phase.TheVariants.{Marking}
 use Rattle.gc_graph.specs.State.{Setup, Node}
+use Rattle.heap_roots.specs.FieldNodes.{holders_same}
+use Rattle.heap_roots.specs.WeakHolders.{StayHolders}
 use Rattle.heap_roots.specs.Sweeping.{cursor_at}
 use Rattle.heap_roots.specs.Marks.{HasMarking, HasMarks}
 use Rattle.heap_roots.specs.Objects.{ObjectsView, setup_of_objects, StaysAt}
@@ -31,6 +33,7 @@ has_manned s new is =
     subst (λ ph. HasMarks ph (cursor_at new.shape s.cycle.sweep) s.cycle.rest.may new) (sym is.marking) (is.marks before) in
     record {
       tied = tied_nodes s new s.cycle is.tied (λ n. subst (λ (ns : List Node). StaysAt s.objects.nodes ns n) (sym is.nodes) (refl, refl)) is.setup refl
+          (subst (StayHolders s.objects.nodes) (sym is.nodes) (holders_same s.objects.nodes)) refl
           (subst (λ (u : Setup). IsSweepOf u.shape s.cycle.phase s.cycle.rest.cursor s.cycle.sweep) (sym is.setup) is.tied.sweep) marks (is.traced ∙ is.tied.traced)
           (omega (arith, is.tied.made, ap length is.nodes));
       manned = is.running ∙ sym (ap (λ (u : Setup). u.markers) is.setup);

@@ -10,11 +10,13 @@ use Rattle.gc_graph.specs.State.{State, Node, node_at, size_of, is_dead, IsLive,
 use Rattle.gc_graph.specs.State.RegionSlot.{Vacant, StrongTo, WeakTo}
 use Rattle.gc_graph.specs.May.{members}
 use Rattle.gc_graph.specs.History.{region_after, replayed, weak_target}
-use Rattle.gc_graph.specs.Pause.{condemn, dies, clear_slot, is_dead_at, names_dead_node, mask_of, dying_slots, entry_of_pause, run_order, prefinalised, live_count, dead_count, paused}
+use Rattle.gc_graph.specs.Pause.{condemn, dies, clear_slot, is_dead_at, names_dead_node, mask_of, dying_slots, live_count, dead_count}
+use Rattle.gc_graph.specs.Paused.{entry_of_pause, paused}
 use Rattle.gc_graph.specs.Outcomes.{owner_entry, took}
 use Rattle.gc_graph.specs.Replays.{replayed-append}
 use Rattle.gc_graph.specs.CycleSteps.{is_stack_refused}
 use Rattle.callback_table.specs.Registry.{RegistryView, registrations_of}
+use Rattle.callback_table.specs.WeakRegistry.{WeakRegistryView}
 use Rattle.cross_thread_region.specs.declared.chronicle.PlacedEntry.{PlacedEntry}
 use Rattle.cross_thread_region.specs.Histories.{entries_of, slots_of}
 use Rattle.cross_thread_region.specs.OrdersStay.{slots_on}
@@ -25,7 +27,7 @@ use Rattle.heap_roots.specs.Judgement.{nodes_after}
 use Rattle.heap_roots.specs.Marks.{ObjectsAreAtRest}
 use Rattle.heap_roots.specs.Objects.{ObjectsView, setup_of_objects, refused_of}
 use Rattle.heap_roots.specs.Owned.{OwnedView, found_of, piece_of, untold_of, with_region}
-use Rattle.heap_roots.specs.Pausing.{IsPaused, hits_in}
+use Rattle.heap_roots.specs.Pausing.{IsPaused, called_back, hits_in}
 use Rattle.heap_roots.specs.PlacesInWords.{places_of_slots, BodiesAreJudged}
 use Rattle.heap_roots.specs.Refused.{IsToldTruly}
 use Rattle.heap_roots.specs.Stack.{is_precise}
@@ -63,7 +65,11 @@ dying_agree a b region same = ap mask_of (named_agree region) where
 
 -- the registered prefinalizers
 abbrev pub registry_of : CycleView → RegistryView
-registry_of c = record { entries = c.registered; ran = c.ran }
+registry_of c = record { entries = c.registered; ran = c.ran.prefinalised }
+
+-- the registered weak callbacks
+abbrev pub weak_registry_of : CycleView → WeakRegistryView
+weak_registry_of c = record { entries = c.weakly; ran = c.ran.weak }
 
 -- from the parts of an open cycle to those after its pause, at which so many markers run
 pub record Pauses (markers : ℕ) (want : Want) (s : Parts) (new : ObjectsView) (left : HandlesView) (after : CycleView) (r : OwnedView) (result : Finished) : Type 0 where
@@ -73,10 +79,10 @@ pub record Pauses (markers : ℕ) (want : Want) (s : Parts) (new : ObjectsView) 
   pub entry : HasPauseEntry new.nodes s.region r
   pub allowed : is_stack_refused want s.handles.stack.words ≡ false
   pub setup : setup_of_objects new ≡ setup_of s
-  pub paused : IsPaused s.objects.callbacks
+  pub paused : IsPaused s.objects.callbacks s.objects.types
       (slot_targets s.handles.slots ++ strong_region_targets (slots_of (found_of r)) ++ hits_in (is_precise want) s.objects.nodes s.handles.stack.addresses)
       (members s.cycle.rest.may ++ strong_region_targets (slots_of (found_of r)) ++ hits_in (is_precise want) s.objects.nodes s.handles.stack.addresses)
-      s.objects.nodes new.nodes (registry_of s.cycle) (registry_of after)
+      s.objects.nodes new.nodes (registry_of s.cycle) (registry_of after) (weak_registry_of after)
   pub sizes : (n : ℕ) → IsLive s.objects.nodes n → size_of (node_at new.nodes n) ≡ size_of (node_at s.objects.nodes n)
   pub handles_left : left ≡ record s.handles { weak_places = places_of_slots new.nodes left.weak; weak = map (clear_slot (is_dead_at new.nodes)) s.handles.weak }
   pub rests : ObjectsAreAtRest new
@@ -197,7 +203,7 @@ module _ (markers : ℕ) (want : Want) (s : Parts) (new : ObjectsView) (left : H
   parts_paused =
       let h : HandlesView = s.handles in
       let weak : List (Option ℕ) = weak_after kept old_nodes h.weak in
-      let nodes : List Node = prefinalised s.objects.callbacks (run_order judged_nodes registrations) (nodes_after kept old_nodes) in
+      let nodes : List Node = called_back s.objects.callbacks s.objects.types kept s.cycle.registered old_nodes in
       let rest : List Registration = filter (λ r. not (dies judged_nodes r)) registrations in
       region_paused (others_of paused_parts)
       ∙ ap (λ ns. build ns left left.weak (registrations_of after.registered) after.phase after.rest) is.paused.nodes_are

@@ -1,5 +1,5 @@
 -- The pause of a cycle is a step of the graph, and leaves the parts tied.
-use Rattle.std.proofs.Common.{◌≡◌, ℕ, Bool, true, not, All, List, [], ◌∷◌, ◌++◌, length, refl, sym, ap, ◌∙◌, subst, arith}
+use Rattle.std.proofs.Common.{◌≡◌, ℕ, Bool, true, not, All, List, [], ◌∷◌, ◌++◌, length, map, refl, sym, ap, ◌∙◌, subst, arith}
 use Rattle.std.proofs.lemmas.List.{length-map}
 use Rattle.std.proofs.lemmas.List.Elements.{All-filter, All-weaker}
 use Rattle.gc_graph.specs.declared.command.Want.{Want}
@@ -11,13 +11,16 @@ use Rattle.gc_graph.specs.History.{IsLegalFrom, NamesWeakSlots}
 use Rattle.gc_graph.specs.May.{members, hits_for}
 use Rattle.gc_graph.specs.NodeNumbers.{there_below}
 use Rattle.gc_graph.specs.Outcomes.{took}
-use Rattle.gc_graph.specs.Pause.{IsKept, condemn, dies, dying_slots, entry_of_pause, run_order, prefinalise_lines, live_count, dead_count}
+use Rattle.gc_graph.specs.Pause.{IsKept, condemn, dies, dying_slots, run_order, live_count, dead_count}
+use Rattle.gc_graph.specs.Paused.{entry_of_pause, callback_lines}
+use Rattle.gc_graph.specs.WeakCalls.{weak_calls}
 use Rattle.gc_graph.specs.Reach.{RefersWithin, ReachIsLeast}
 use Rattle.gc_graph.specs.Replays.{legal-append}
-use Rattle.gc_graph.specs.State.{Setup, State, Node, RegionSlot, is_live, is_dead, graph_of, IsLive, slot_targets, stack_targets, strong_region_targets}
+use Rattle.gc_graph.specs.State.{Setup, State, ObjectType, Node, RegionSlot, is_live, is_dead, graph_of, IsLive, slot_targets, stack_targets, strong_region_targets}
 use Rattle.gc_graph.specs.Valid.{IsMay, IsValid}
 use Rattle.gc_graph.specs.ValidLaw.{OrdersKeepValid}
-use Rattle.callback_table.specs.Registry.{registration_of}
+use Rattle.callback_table.specs.Registry.{registration_of, pairs_run}
+use Rattle.callback_table.specs.WeakRegistry.{pair_called}
 use Rattle.cross_thread_region.specs.Histories.{slots_of}
 use Rattle.cross_thread_region.specs.OrdersStay.{slots_on}
 use Rattle.heap_roots.specs.Finished.{Finished}
@@ -33,6 +36,7 @@ use Rattle.heap_roots.specs.PlacesInWords.{places_of_slots}
 use Rattle.heap_roots.specs.Stack.{HoldsWords, is_precise}
 use Rattle.heap_roots.specs.StackWords.{words_held}
 use Rattle.heap_roots.specs.WeakNodes.{place-after, length-after, live-after, dead-after, count-stays}
+use Rattle.heap_roots.specs.WeakCalling.{AreOfHolders}
 use Rattle.heap_cycle.specs.declared.parts.Parts.{Parts}
 use Rattle.heap_cycle.specs.Cycles.{HasPaused, pause_line}
 use Rattle.heap_cycle.specs.Parts.{setup_of, state_of}
@@ -106,8 +110,11 @@ module _ (markers : ℕ) (want : Want) (s : Parts) (new : ObjectsView) (left : H
 
   lines : pause_line result ∷ ran_lines true after.ran
       ≡ L.Pause (live_count judged) (dead_count judged) result.crew result.pause.traced result.pause.walked
-      ∷ prefinalise_lines (run_order judged (registrations markers want s new left after r result is))
+      ∷ callback_lines (weak_calls s.objects.types judged) (run_order judged (registrations markers want s new left after r result is))
   lines =
+      let ran : after.ran ≡ record { weak = map pair_called (weak_calls s.objects.types judged); prefinalised = pairs_run judged s.cycle.registered } =
+      ap (λ (rs : List (ℕ × ℕ)). record { weak = rs; prefinalised = after.ran.prefinalised }) is.paused.weak_ran
+      ∙ ap (λ (rs : List (ℕ × ℕ)). record { weak = map pair_called (weak_calls s.objects.types judged); prefinalised = rs }) is.paused.ran in
       let live : result.pause.kept ≡ live_count judged =
       is.kept_is ∙ count-stays is_live (nodes_after set old) new.nodes is.paused.stayed.count is.paused.stayed.life ∙ live-after set old in
       let dead : result.pause.dead ≡ dead_count judged =
@@ -115,7 +122,7 @@ module _ (markers : ℕ) (want : Want) (s : Parts) (new : ObjectsView) (left : H
       ap (λ k. L.Pause k result.pause.dead result.crew result.pause.traced result.pause.walked ∷ ran_lines true after.ran) live
       ∙ ap (λ d. L.Pause (live_count judged) d result.crew result.pause.traced result.pause.walked ∷ ran_lines true after.ran) dead
       ∙ ap (λ ls. L.Pause (live_count judged) (dead_count judged) result.crew result.pause.traced result.pause.walked ∷ ls)
-      (ap (ran_lines true) is.paused.ran ∙ lines_ran judged s.cycle.registered)
+      (ap (ran_lines true) ran ∙ lines_ran judged (weak_calls s.objects.types judged) s.cycle.registered)
 
   pauses_at : IsPauseAt (setup_of s) markers want ready set judged (pause_line result ∷ ran_lines true after.ran) (state_of parts)
   pauses_at = record {
@@ -213,6 +220,7 @@ module _ (markers : ℕ) (want : Want) (s : Parts) (new : ObjectsView) (left : H
               (All-weaker (IsLive old) (StaysAt old new.nodes) (λ n live. (places n, is.sizes n live)) (stack_targets h.stack.words) is.ready.valid.stack)
               is.ready.tied.stack);
           registered = registered_left;
+          weakly = subst (λ (ts : List ObjectType). AreOfHolders ts new.nodes after.weakly) (sym (ap (λ (st : Setup). st.types) is.setup)) is.paused.weak_left;
           sweep = began_sweep s.objects new s.cycle after is.ready.tied.sweep is.setup is.phase is.sweep (ap (λ (st : State). st.cursor) is.rest);
           marks = began_marks new after s.cycle.sweep is.phase is.sweep is.rests is.judged_marks;
           traced = is.kept_traced ∙ is.ready.tied.traced ∙ sym (ap (λ (st : State). st.traced) is.rest);

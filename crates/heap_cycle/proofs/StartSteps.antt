@@ -21,6 +21,8 @@ use Rattle.gc_graph.specs.Replays.{legal-append}
 use Rattle.gc_graph.specs.Sweep.{SweepsInPhase, SweepsToEnd}
 use Rattle.gc_graph.specs.Valid.{HasMay, IsValid}
 use Rattle.gc_graph.specs.ValidLaw.{StepKeepsValid}
+use Rattle.heap_roots.specs.FieldNodes.{holders_same}
+use Rattle.heap_roots.specs.WeakHolders.{StayHolders}
 use Rattle.heap_roots.specs.Sweeping.{cursor_at}
 use Rattle.heap_roots.specs.Marks.{HasMarking, HasMarks}
 use Rattle.heap_roots.specs.Objects.{ObjectsView, HaveCallbacks, setup_of_objects, StaysAt}
@@ -131,6 +133,7 @@ module _ (s : Parts) (new : ObjectsView) (after : CycleView) (is : Begins s new 
         tied = tied_nodes s new after is.ready.tied
             (λ n. subst (λ (ns : List Node). StaysAt s.objects.nodes ns n) (sym is.nodes) (refl, refl)) is.setup
             (ap (λ (c : CycleView). c.registered) is.cycle)
+            (subst (StayHolders s.objects.nodes) (sym is.nodes) (holders_same s.objects.nodes)) (ap (λ (c : CycleView). c.weakly) is.cycle)
             begun_sweep begun_marks (is.traced ∙ sym (ap (λ (c : CycleView). c.rest.traced) is.cycle))
             (omega (arith, is.ready.tied.made, ordinal, ap length is.nodes));
       }

@@ -32,7 +32,7 @@ use Rattle.heap_roots.specs.PlacesInWords.{BodiesAreJudged}
 use Rattle.heap_cycle.specs.declared.parts.Parts.{Parts}
 use Rattle.heap_cycle.specs.Views.{CycleView, IsSweepOf}
 use Rattle.heap_cycle.specs.Parts.{setup_of, state_of, IsReady}
-use Rattle.heap_roots.specs.SweptNodes.{place-finalised, size-finalised}
+use Rattle.heap_roots.specs.SweptNodes.{place-finalised, size-finalised, holders-finalised}
 use Rattle.heap_cycle.proofs.PlacementSteps.{sweeps_nothing}
 use Rattle.heap_cycle.specs.Ties.{tied_nodes}
 
@@ -170,7 +170,7 @@ parts_ready s new after pages before told law shape ready sweeping further withi
           (valid_swept (setup_of s) (state_of s) t pages is.nodes.numbers law shape ready.valid sweeping (omega (arith, further, cursor)) within goes);
       called = subst (λ (st : Setup). HaveCallbacks (length st.callbacks) st.types) (sym is.setup) ready.called;
       tied = tied_nodes s new after ready.tied (λ n. stays_swept limit o.nodes new.nodes n is.nodes.nodes) is.setup is.registered
-          (sweep_after o new y after pages before told is ready.tied.sweep.pages) (marks_after o new y after pages before told is)
+          (holders-finalised limit o.nodes new.nodes is.nodes.nodes) is.weakly (sweep_after o new y after pages before told is ready.tied.sweep.pages) (marks_after o new y after pages before told is)
           (ap (λ (g : GreyView). g.traced) is.grey ∙ ready.tied.traced ∙ sym (ap (λ (st : State). st.traced) is.rest))
           (omega (arith, ready.tied.made, ordinal, ap length is.nodes.nodes, length-map o.nodes (finalise limit)));
     }

@@ -30,9 +30,9 @@ marks_at shape pages limit may o rest swept quiet =
 
 pub parts_swept : (o new : ObjectsView) (c after : CycleView) (pages count limit : ℕ) (before told : List ℕ) → setup_of_objects new ≡ setup_of_objects o
     → FinalisesBelow limit o.nodes before told new.nodes → limit ≡ pages * o.shape.page_words → length told ≡ length before + count → after.phase ≡ phase_at o.shape pages
-    → after.sweep ≡ record c.sweep { cursor = pages } → after.registered ≡ c.registered → after.ran ≡ c.ran → after.rest ≡ swept_to pages count c.rest
+    → after.sweep ≡ record c.sweep { cursor = pages } → after.registered ≡ c.registered → after.weakly ≡ c.weakly → after.ran ≡ c.ran → after.rest ≡ swept_to pages count c.rest
     → HasMarks after.phase limit after.rest.may new → new.grey ≡ o.grey → SweepsParts o new c after pages before told
-parts_swept o new c after pages count limit before told setup is at counted phase sweep registered ran rest marks grey =
+parts_swept o new c after pages count limit before told setup is at counted phase sweep registered weakly ran rest marks grey =
     let many : count ≡ length is.numbers = omega (arith, counted, ap length is.follow, length-append before is.numbers) in
     record {
       setup = setup;
@@ -45,6 +45,7 @@ parts_swept o new c after pages count limit before told setup is at counted phas
       phase = phase;
       sweep = sweep;
       registered = registered;
+      weakly = weakly;
       ran = ran;
       rest = rest ∙ ap (λ n. swept_to pages n c.rest) many;
       marks = subst (λ l. HasMarks after.phase l after.rest.may new) at marks;

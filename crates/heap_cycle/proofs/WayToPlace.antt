@@ -8,6 +8,8 @@ use Rattle.gc_graph.specs.State.{Setup, State, Shape}
 use Rattle.gc_graph.specs.Sweep.{finalise, swept_pages, SweepsTo}
 use Rattle.gc_graph.specs.SweepLaw.{SweepsJoin, SweepIsOne}
 use Rattle.gc_graph.specs.ValidLaw.{StepKeepsValid}
+use Rattle.callback_table.specs.declared.registrations.LastRegistered.{LastRegistered}
+use Rattle.callback_table.specs.Registrations.{weakly_without}
 use Rattle.heap_roots.specs.Space.{FitsBetween}
 use Rattle.heap_roots.specs.Sweeping.{SweepView, cursor_at}
 use Rattle.heap_cycle.specs.Changes.{SweepsParts}
@@ -30,14 +32,15 @@ pub record IsOnTheWay (s mid : Parts) (size : ℕ) (told : List ℕ) : Type 0 wh
   pub ordinal : mid.cycle.rest.ordinal ≡ s.cycle.rest.ordinal
 
 -- a sweep leaves registrations that are no part of the state yet
-pub left_out : (s : Parts) (new : ObjectsView) (after : CycleView) (count pages : ℕ) (before told : List ℕ) → SweepsParts s.objects new s.cycle after pages before told
-    → SweepsParts s.objects new (unregistered count s).cycle (unregistered count (record s { objects = new; cycle = after })).cycle pages before told
-left_out s new after count pages before told is = record {
+pub left_out : (s : Parts) (new : ObjectsView) (after : CycleView) (last : LastRegistered) (pages : ℕ) (before told : List ℕ) → SweepsParts s.objects new s.cycle after pages before told
+    → SweepsParts s.objects new (unregistered last s).cycle (unregistered last (record s { objects = new; cycle = after })).cycle pages before told
+left_out s new after last pages before told is = record {
   setup = is.setup;
   nodes = is.nodes;
   phase = is.phase;
   sweep = is.sweep;
-  registered = ap (λ es. take (length es - count) es) is.registered;
+  registered = ap (λ es. take (length es - last.prefinalizers) es) is.registered;
+  weakly = ap (weakly_without last) is.weakly;
   ran = is.ran;
   rest = is.rest;
   marks = is.marks;
@@ -119,39 +122,39 @@ module _ (s mid : Parts) (new : ObjectsView) (after : CycleView) (size : ℕ) (t
       (found_in_page s.objects.shape (state_of s) (state_of mid) (state_of swept) size mid.cycle.sweep.cursor a told is.nodes.numbers join way.searched left goes found)
 
 -- the same, where registrations are left out, and for the page that was searched
-module _ (s mid : Parts) (new : ObjectsView) (after : CycleView) (count size page : ℕ) (told later : List ℕ)
-    (way : IsOnTheWay (unregistered count s) (unregistered count mid) size told) (cursor : mid.cycle.sweep.cursor ≡ page) (left : page < s.objects.shape.pages)
+module _ (s mid : Parts) (new : ObjectsView) (after : CycleView) (last : LastRegistered) (size page : ℕ) (told later : List ℕ)
+    (way : IsOnTheWay (unregistered last s) (unregistered last mid) size told) (cursor : mid.cycle.sweep.cursor ≡ page) (left : page < s.objects.shape.pages)
     (is : SweepsParts mid.objects new mid.cycle after (mid.cycle.sweep.cursor + 1) told later) where
   -- the parts after the page
   abbrev after_page : Parts
-  after_page = unregistered count (record mid { objects = new; cycle = after })
+  after_page = unregistered last (record mid { objects = new; cycle = after })
 
   remains : mid.cycle.sweep.cursor < s.objects.shape.pages
   remains = omega (arith, cursor, left)
 
-  parts : SweepsParts mid.objects new (unregistered count mid).cycle after_page.cycle (mid.cycle.sweep.cursor + 1) told later
-  parts = left_out mid new after count (mid.cycle.sweep.cursor + 1) told later is
+  parts : SweepsParts mid.objects new (unregistered last mid).cycle after_page.cycle (mid.cycle.sweep.cursor + 1) told later
+  parts = left_out mid new after last (mid.cycle.sweep.cursor + 1) told later is
 
   new_shape : new.shape ≡ s.objects.shape
   new_shape = ap (λ (st : Setup). st.shape) (is.setup ∙ way.setup)
 
   pub page_ready : StepKeepsValid → IsShape s.objects.shape → IsReady after_page
-  page_ready law shape = swept_ready (unregistered count s) (unregistered count mid) new after_page.cycle size told later way remains parts law shape
+  page_ready law shape = swept_ready (unregistered last s) (unregistered last mid) new after_page.cycle size told later way remains parts law shape
 
   pub page_made : length new.nodes ≡ length s.objects.nodes
-  page_made = swept_made (unregistered count s) (unregistered count mid) new after_page.cycle size told later way remains parts
+  page_made = swept_made (unregistered last s) (unregistered last mid) new after_page.cycle size told later way remains parts
 
   pub page_goes_on : StepKeepsValid → SweepsJoin → SweepIsOne → IsShape s.objects.shape → AreFewTold mid.objects.shape (cursor_at mid.objects.shape after.sweep) new.seat later
-      → IsNowhere (FitsBetween new.shape page (page + 1) (extents_of new.nodes) size) → IsOnTheWay (unregistered count s) after_page size later
+      → IsNowhere (FitsBetween new.shape page (page + 1) (extents_of new.nodes) size) → IsOnTheWay (unregistered last s) after_page size later
   page_goes_on law join one shape few nowhere =
-      goes_on (unregistered count s) (unregistered count mid) new after_page.cycle size told later way remains parts law join one shape few
+      goes_on (unregistered last s) (unregistered last mid) new after_page.cycle size told later way remains parts law join one shape few
       (subst (λ k. IsNowhere (FitsBetween s.objects.shape k (k + 1) (extents_of new.nodes) size)) (sym cursor)
       (subst (λ (sh : Shape). IsNowhere (FitsBetween sh page (page + 1) (extents_of new.nodes) size)) new_shape nowhere))
 
   pub page_placed : SweepsJoin → (a : ℕ) → IsLowest (FitsBetween new.shape page (page + 1) (extents_of new.nodes) size) a
-      → IsPlacement s.objects.shape (state_of (unregistered count s)) size later (state_of after_page) (Some a)
+      → IsPlacement s.objects.shape (state_of (unregistered last s)) size later (state_of after_page) (Some a)
   page_placed join a found =
-      placed_in_page (unregistered count s) (unregistered count mid) new after_page.cycle size told later way remains parts join a
+      placed_in_page (unregistered last s) (unregistered last mid) new after_page.cycle size told later way remains parts join a
       (subst (λ k. IsLowest (FitsBetween s.objects.shape k (k + 1) (extents_of new.nodes) size) a) (sym cursor)
       (subst (λ (sh : Shape). IsLowest (FitsBetween sh page (page + 1) (extents_of new.nodes) size) a) new_shape found))
 

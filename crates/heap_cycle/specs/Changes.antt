@@ -15,7 +15,7 @@ use Rattle.heap_roots.specs.Marks.{HasMarks}
 use Rattle.heap_roots.specs.Objects.{ObjectsView, setup_of_objects}
 use Rattle.heap_cycle.specs.Views.{CycleView, Moment}
 
--- the last registrations, so many of them, got this place
+-- the last registered prefinalizers, so many of them, got this place
 abbrev pub placed_last : ℕ → ℕ → List Registered → List Registered
 placed_last count place entries =
     take (length entries - count) entries ++ map (placed_at place) (drop (length entries - count) entries)
@@ -35,6 +35,7 @@ pub record SweepsParts (o new : ObjectsView) (c after : CycleView) (pages : ℕ)
   pub phase : after.phase ≡ phase_at o.shape pages
   pub sweep : after.sweep ≡ record c.sweep { cursor = pages }
   pub registered : after.registered ≡ c.registered
+  pub weakly : after.weakly ≡ c.weakly
   pub ran : after.ran ≡ c.ran
   pub rest : after.rest ≡ swept_to pages (length nodes.numbers) c.rest
   pub marks : HasMarks after.phase (pages * o.shape.page_words) after.rest.may new

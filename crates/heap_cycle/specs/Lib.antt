@@ -1,8 +1,8 @@
 pub mod Finalising
+pub mod Views
 pub mod Printed
 pub mod LastLine
 pub mod Counts
-pub mod Views
 pub mod Walks
 pub mod Parts
 pub mod Region
@@ -43,5 +43,7 @@ pub use Rattle.heap_roots.specs.StackWords
 pub use Rattle.heap_roots.specs.Sweeping
 pub use Rattle.heap_roots.specs.Took
 pub use Rattle.heap_roots.specs.Wanted
+pub use Rattle.heap_roots.specs.WeakCalling
+pub use Rattle.heap_roots.specs.WeakHolders
 pub use Rattle.mark_worklist.specs.Families
 pub use Rattle.mark_worklist.specs.Shares

@@ -7,7 +7,7 @@ use Rattle.std.proofs.lemmas.List.Elements.{All-get_or, All-weaker}
 use Rattle.gc_graph.specs.declared.phase.Phase.{Phase}
 use Rattle.gc_graph.specs.declared.phase.Phase.TheVariants.{Idle, Marking, Sweeping}
 use Rattle.gc_graph.specs.CycleSteps.{is_marking}
-use Rattle.gc_graph.specs.State.{Setup, Node, IsLive, slot_targets}
+use Rattle.gc_graph.specs.State.{Setup, ObjectType, Node, IsLive, slot_targets}
 use Rattle.heap_roots.specs.MarkerCrews.{Marker}
 use Rattle.gc_graph.specs.Valid.{AreLive}
 use Rattle.callback_table.specs.declared.registry.Registered.{Registered}
@@ -23,6 +23,8 @@ use Rattle.heap_cycle.specs.Parts.{setup_of, state_of, counted, AreTied, IsManne
 use Rattle.heap_roots.specs.Handles.{put_in, copied_in, weakened_in, popped_in}
 use Rattle.heap_roots.specs.KeptNodes.{slots_live}
 use Rattle.heap_roots.specs.StackWords.{words_held, words_popped}
+use Rattle.heap_roots.specs.WeakCalling.{AreOfHolders}
+use Rattle.heap_roots.specs.WeakHolders.{StayHolders, holders_stay}
 
 -- the nodes of parts that are ready are those of a valid state
 pub valid_nodes : (s : Parts) → IsReady s → AreOfValid (setup_of s) s.objects.nodes
@@ -86,6 +88,7 @@ tied_slot s p target is tied = record {
   weak = tied.weak;
   stack = tied.stack;
   registered = tied.registered;
+  weakly = tied.weakly;
   sweep = tied.sweep;
   marks = tied.marks;
   traced = tied.traced;
@@ -100,6 +103,7 @@ tied_copy s p q tied = record {
   weak = tied.weak;
   stack = tied.stack;
   registered = tied.registered;
+  weakly = tied.weakly;
   sweep = tied.sweep;
   marks = tied.marks;
   traced = tied.traced;
@@ -114,6 +118,7 @@ tied_weak s w p tied = record {
       ∙ sym (map-set (λ (slot : Option ℕ). option_map (place_of s.objects.nodes) slot) s.handles.weak w (get_or s.handles.slots p None));
   stack = tied.stack;
   registered = tied.registered;
+  weakly = tied.weakly;
   sweep = tied.sweep;
   marks = tied.marks;
   traced = tied.traced;
@@ -127,6 +132,7 @@ tied_pop s tied = record {
   weak = tied.weak;
   stack = words_popped s.objects.nodes s.handles.stack tied.stack;
   registered = tied.registered;
+  weakly = tied.weakly;
   sweep = tied.sweep;
   marks = tied.marks;
   traced = tied.traced;
@@ -145,17 +151,19 @@ placed_still o new entries same callbacks placed =
     All-weaker (IsPlaced o.nodes (length o.callbacks)) (IsPlaced new.nodes (length new.callbacks))
     (λ e is. record { place = same e.node ∙ is.place; known = omega (arith, is.known, ap length callbacks) }) entries placed
 
--- the nodes change, but their places and sizes stay, and no prefinalizer is registered
+-- the nodes change, but their places, sizes and types stay, and those that lived live; no callback is registered
 pub tied_nodes : (s : Parts) (new : ObjectsView) (after : CycleView) → AreTied s → ((n : ℕ) → StaysAt s.objects.nodes new.nodes n)
-    → setup_of_objects new ≡ setup_of s → after.registered ≡ s.cycle.registered
+    → setup_of_objects new ≡ setup_of s → after.registered ≡ s.cycle.registered → StayHolders s.objects.nodes new.nodes → after.weakly ≡ s.cycle.weakly
     → IsSweepOf new.shape after.phase after.rest.cursor after.sweep → HasMarks after.phase (cursor_at new.shape after.sweep) after.rest.may new
     → new.grey.traced ≡ after.rest.traced → length new.nodes ≤ after.rest.ordinal → AreTied (record s { objects = new; cycle = after })
-tied_nodes s new after tied same setup registered sweep marks traced made = record {
+tied_nodes s new after tied same setup registered holders weakly sweep marks traced made = record {
   slots = tied.slots ∙ sym (places-same (place_of new.nodes) (place_of s.objects.nodes) s.handles.slots (λ n. (same n).0));
   weak = tied.weak ∙ sym (places-same (place_of new.nodes) (place_of s.objects.nodes) s.handles.weak (λ n. (same n).0));
   stack = words_held s.objects.nodes new.nodes s.handles.stack (λ k d low. same _) tied.stack;
   registered = subst (All (IsPlaced new.nodes (length new.callbacks))) (sym registered)
       (placed_still s.objects new s.cycle.registered (λ n. (same n).0) (ap (λ (st : Setup). st.callbacks) setup) tied.registered);
+  weakly = subst (λ (ts : List ObjectType). AreOfHolders ts new.nodes after.weakly) (sym (ap (λ (st : Setup). st.types) setup))
+      (subst (AreOfHolders s.objects.types new.nodes) (sym weakly) (holders_stay s.objects.types s.objects.nodes new.nodes holders s.cycle.weakly tied.weakly));
   sweep = sweep;
   marks = marks;
   traced = traced;
@@ -165,11 +173,11 @@ tied_nodes s new after tied same setup registered sweep marks traced made = reco
 -- and no more than fields change: the sweep and the marks stay
 pub tied_fields : (s : Parts) (new : ObjectsView) → AreTied s → ((n : ℕ) → StaysAt s.objects.nodes new.nodes n) → setup_of_objects new ≡ setup_of s
     → HasMarks s.cycle.phase (cursor_at s.objects.shape s.cycle.sweep) s.cycle.rest.may new → new.grey.traced ≡ s.objects.grey.traced
-    → length new.nodes ≡ length s.objects.nodes → AreTied (counted (record s { objects = new }))
-tied_fields s new tied same setup marks traced made =
-    tied_nodes s new (counted s).cycle tied same setup refl (subst (λ (st : Setup). IsSweepOf st.shape s.cycle.phase s.cycle.rest.cursor s.cycle.sweep) (sym setup) tied.sweep)
+    → StayHolders s.objects.nodes new.nodes → AreTied (counted (record s { objects = new }))
+tied_fields s new tied same setup marks traced holders =
+    tied_nodes s new (counted s).cycle tied same setup refl holders refl (subst (λ (st : Setup). IsSweepOf st.shape s.cycle.phase s.cycle.rest.cursor s.cycle.sweep) (sym setup) tied.sweep)
     (subst (λ (st : Setup). HasMarks s.cycle.phase (cursor_at st.shape s.cycle.sweep) s.cycle.rest.may new) (sym setup) marks) (traced ∙ tied.traced)
-    (omega (arith, tied.made, made))
+    (omega (arith, tied.made, holders.whole))
 
 -- one command more was answered
 pub tied_counted : (s : Parts) → AreTied s → AreTied (counted s)
@@ -178,6 +186,7 @@ tied_counted s tied = record {
   weak = tied.weak;
   stack = tied.stack;
   registered = tied.registered;
+  weakly = tied.weakly;
   sweep = tied.sweep;
   marks = tied.marks;
   traced = tied.traced;

@@ -42,7 +42,7 @@ pub fn start<R: Threads + Wait, G: Gate + Send + Sync + 'static>(
     requires region { HasRegion parts.old }
     requires quiet { parts.old.region.told ≡ [] }
     requires numbers { outcome.old.numbers ≡ [] }
-    requires calm { outcome.old.prefinalises ≡ false }
+    requires calm { outcome.old.calls_back ≡ false }
     requires room { word_count parts.old.objects.shape ≤ 2 * outcome.old.room }
     ensures step { StepGcStart (setup_of parts.old) (state_of parts.old)
         (piece_of parts.old.region parts.new.region)
@@ -51,7 +51,7 @@ pub fn start<R: Threads + Wait, G: Gate + Send + Sync + 'static>(
     ensures region { HasRegion parts.new }
     ensures grown { TakesMore parts.old.region parts.new.region }
     ensures marked { result ≡ L.Started → AreSlotsMarked parts.new parts.new.region.taken }
-    ensures calm { outcome.new.prefinalises ≡ false }
+    ensures calm { outcome.new.calls_back ≡ false }
     ensures room { outcome.new.room ≡ outcome.old.room }
 {
     let open = parts.cycle.is_marking();
@@ -107,7 +107,7 @@ pub fn finish<R: Threads + Wait>(
     requires quiet { parts.old.region.told ≡ [] }
     requires kinds { callback_kinds callbacks.now ≡ parts.old.objects.callbacks }
     requires numbers { outcome.old.numbers ≡ [] }
-    requires calm { outcome.old.prefinalises ≡ false }
+    requires calm { outcome.old.calls_back ≡ false }
     ensures step { StepGcFinish (setup_of parts.old) want (state_of parts.old)
         (piece_of parts.old.region parts.new.region)
         (lines_with outcome.new parts.new.cycle.ran result) (answered (state_of parts.new)) }
@@ -124,7 +124,7 @@ pub fn finish<R: Threads + Wait>(
         return Line::Refused(Refusal::Stack);
     }
     let result = pause(rt, parts, callbacks, want);
-    outcome.prefinalise(parts.cycle.ran());
+    outcome.call_back(parts.cycle.registered());
     line_of(result)
 }
 
@@ -144,7 +144,7 @@ pub fn collect<R: Threads + Wait>(
     requires quiet { parts.old.region.told ≡ [] }
     requires kinds { callback_kinds callbacks.now ≡ parts.old.objects.callbacks }
     requires numbers { outcome.old.numbers ≡ [] }
-    requires calm { outcome.old.prefinalises ≡ false }
+    requires calm { outcome.old.calls_back ≡ false }
     requires room { word_count parts.old.objects.shape ≤ 2 * outcome.old.room }
     ensures step { StepGcNow (setup_of parts.old) want (state_of parts.old)
         (piece_of parts.old.region parts.new.region)
@@ -166,7 +166,7 @@ pub fn collect<R: Threads + Wait>(
         return Line::Memory;
     };
     let result = pause(rt, parts, callbacks, want);
-    outcome.prefinalise(parts.cycle.ran());
+    outcome.call_back(parts.cycle.registered());
     line_of(result)
 }
 
@@ -194,7 +194,7 @@ fn pause<R: Threads + Wait>(
         rt,
         &mut parts.region,
         &mut parts.objects,
-        &mut cycle.registry,
+        &mut cycle.registered,
         callbacks,
         want,
     );

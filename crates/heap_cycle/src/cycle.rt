@@ -1,17 +1,20 @@
-// The collection cycle: its phase, which is one of three stages, and its registered prefinalizers.
+// The collection cycle: its phase, which is one of three stages, and its registered callbacks.
 
-ghost use Rattle.std.specs.Prelude.{◌≡◌, ◌-◌, ◌≤◌, false};
-ghost use Rattle.std.specs.Prelude.{[], ◌++◌, OnOk, OnErr, length, map, take};
+ghost use Rattle.std.specs.Prelude.{◌≡◌, ◌-◌, ◌<◌, ◌≤◌, true, false};
+ghost use Rattle.std.specs.Prelude.{[], ◌++◌, IfOk, OnOk, OnErr, length, map, take};
 ghost use Rattle.gc_graph.specs.declared.phase.Phase.TheVariants.{Idle, Marking};
 ghost use Rattle.gc_graph.specs.State.{empty_state};
 ghost use Rattle.gc_graph.specs.Outcomes.{answered};
 ghost use Rattle.gc_graph.specs.CycleSteps.{is_marking};
 ghost use Rattle.callback_table.specs.Registry.{registered};
+ghost use Rattle.callback_table.specs.Registrations.{weakly_registered_all, last_of};
+ghost use Rattle.callback_table.specs.Registrations.{weakly_without, weakly_placed_last};
 ghost use Rattle.heap_cycle.specs.Changes.{filled, placed_last, with_new};
 ghost use Rattle.heap_cycle.specs.Counts.{counts_of};
+ghost use Rattle.heap_cycle.specs.Views.{ran_of};
 
 use crate::states::{self, States};
-use callback_table::Registry;
+use callback_table::{LastRegistered, Registrations};
 use gc_graph::{NoMemory, Phase};
 use ghost_values::GhostValue;
 use heap_roots::Sweep;
@@ -28,13 +31,13 @@ pub struct Counts {
     pub full: u64,
 }
 
-/// The phase of the cycle, how far its sweep has come, the registered prefinalizers, and what is
+/// The phase of the cycle, how far its sweep has come, the registered callbacks, and what is
 /// counted.
 #[derive(Drop)]
 pub struct Cycle {
     pub(crate) phase: Phase,
     pub(crate) sweep: Sweep,
-    pub(crate) registry: Registry,
+    pub(crate) registered: Registrations,
     pub(crate) counts: Counts,
     /// What no other part holds of the state.
     pub(crate) rest: GhostValue<States>,
@@ -42,6 +45,7 @@ pub struct Cycle {
 
 impl Model for Cycle {
     ghost use Rattle.heap_cycle.specs.Views.{CycleView};
+    ghost use Rattle.heap_cycle.specs.Views.{ran_of};
     ghost use Rattle.heap_cycle.specs.Counts.{counts_of};
     ghost use Rattle.std.specs.Prelude.{◌≡◌};
 
@@ -50,8 +54,9 @@ impl Model for Cycle {
     ghost view = { λ c. record {
       phase = c.phase;
       sweep = c.sweep;
-      registered = c.registry.entries;
-      ran = c.registry.ran;
+      registered = c.registered.prefinalizers.entries;
+      weakly = c.registered.weak_callbacks.entries;
+      ran = ran_of c.registered;
       rest = c.rest.value;
     } };
 
@@ -65,14 +70,15 @@ impl Cycle {
           phase = Idle;
           sweep = record { pages = pages; cursor = pages };
           registered = [];
-          ran = [];
+          weakly = [];
+          ran = record { weak = []; prefinalised = [] };
           rest = empty_state;
         } }
     {
         Cycle {
             phase: Phase::Idle,
             sweep: Sweep::idle(pages),
-            registry: Registry::new(alloc),
+            registered: Registrations::new(alloc),
             counts: Counts {
                 ordinal: 0,
                 pauses: 0,
@@ -144,42 +150,55 @@ impl Cycle {
         self.rest = states::filled(&self.rest);
     }
 
-    /// Registers the callbacks, in their order, for the object with this number, which has no place
-    /// yet. Want of memory is free.
-    pub fn register(&mut self, number: u32, callbacks: &[u32]) -> Result<(), NoMemory>
+    /// Registers the callbacks of the object with this number, which has no place yet, and answers
+    /// which of the last registrations these are. Want of memory is free.
+    pub fn register(
+        &mut self,
+        number: u32,
+        prefinalizers: &[u32],
+        weak_callbacks: &[u32],
+    ) -> Result<LastRegistered, NoMemory>
+        requires { length prefinalizers.now ≤ 4294967295 }
         ensures entries { OnOk result (self.new ≡ record self.old {
-          registered = self.old.registered ++ map (registered number 0) callbacks.now;
+          registered = self.old.registered ++ map (registered number 0) prefinalizers.now;
+          weakly = self.old.weakly ++ weakly_registered_all number 0 weak_callbacks.now;
         }) }
+        ensures last { IfOk result (λ last. last
+            ≡ last_of prefinalizers.now weak_callbacks.now) }
         ensures full { OnErr result (self.new ≡ self.old) }
     {
-        self.registry.register(number, 0, callbacks)
+        self.registered
+            .register(number, prefinalizers, weak_callbacks)
     }
 
     /// The object of the last registrations got its place.
-    pub fn place_last(&mut self, count: u32, place: u32)
-        requires { count ≤ length self.old.registered }
+    pub fn place_last(&mut self, last: LastRegistered, place: u32)
+        requires prefinalizers { last.prefinalizers ≤ length self.old.registered }
+        requires weak { last.weakly ≡ true → 0 < length self.old.weakly }
         ensures { self.new ≡ record self.old {
-          registered = placed_last count place self.old.registered;
+          registered = placed_last last.prefinalizers place self.old.registered;
+          weakly = weakly_placed_last last place self.old.weakly;
         } }
     {
-        self.registry.place_last(count, place);
+        self.registered.place_last(last, place);
     }
 
     /// Takes the last registrations away.
-    pub fn unregister_last(&mut self, count: u32)
-        requires { count ≤ length self.old.registered }
+    pub fn unregister_last(&mut self, last: LastRegistered)
+        requires prefinalizers { last.prefinalizers ≤ length self.old.registered }
+        requires weak { last.weakly ≡ true → 0 < length self.old.weakly }
         ensures { self.new ≡ record self.old {
-          registered = take (length self.old.registered - count) self.old.registered;
+          registered = take (length self.old.registered - last.prefinalizers) self.old.registered;
+          weakly = weakly_without last self.old.weakly;
         } }
     {
-        self.registry.unregister_last(count);
+        self.registered.unregister_last(last);
     }
 
-    /// The number of the object and that of the callback of each prefinalizer that the last pause
-    /// ran, in the order in which they ran.
-    pub fn ran(&self) -> &[(u32, u32)]
-        ensures { result.now ≡ self.now.ran }
+    /// The registrations, which tell the callbacks that the last pause ran.
+    pub fn registered(&self) -> &Registrations
+        ensures { ran_of result.now ≡ self.now.ran }
     {
-        self.registry.ran()
+        &self.registered
     }
 }

@@ -1,13 +1,16 @@
-// The outcome of a command: finalised nodes, then at most one more line, and then the prefinalizers
-// that it ran. It takes no memory after it was made.
+// The outcome of a command: finalised nodes, then at most one more line, and then the callbacks that
+// it ran. It takes no memory after it was made.
 
-ghost use Rattle.std.specs.Prelude.{◌≡◌, ◌-◌, ◌++◌, ◌<◌, ◌==◌, not, [], length, Some, false};
+ghost use Rattle.std.specs.Prelude.{◌≡◌, ◌+◌, ◌-◌, ◌^◌, ◌++◌, ◌<◌, ◌==◌, not, [], length, Some, false};
 ghost use Rattle.std.specs.Prelude.{ℕ, List, ◌∷◌, None, IfOk, IfSome, IfNone, slice_get};
 ghost use Rattle.gc_graph.specs.declared.line.Line.{Line};
 ghost use Rattle.gc_graph.specs.declared.line.Line.TheVariants as L;
-ghost use Rattle.heap_cycle.specs.Printed.{later_lines, outcome_lines};
+ghost use Rattle.heap_cycle.specs.Printed as spec;
+ghost use Rattle.heap_cycle.specs.Printed.{all_ran, count_ran, later_lines, outcome_lines};
 ghost use Rattle.heap_cycle.specs.Printed.{TellsNode, TellsThoseThatRan};
+ghost use Rattle.heap_cycle.specs.Views.{Ran, ran_of};
 
+use callback_table::Registrations;
 use gc_graph::{Line, NoMemory};
 use std::alloc::Global;
 use std::marker::Model;
@@ -18,8 +21,8 @@ pub struct Outcome {
     /// The numbers of finalised nodes, which a sweep fills.
     pub(crate) finalised: Vec<u32>,
     last: Option<Line>,
-    /// Whether the last command ran some prefinalizers, which the cycle holds.
-    prefinalises: bool,
+    /// Whether the last command ran some callbacks, which the cycle holds.
+    calls_back: bool,
 }
 
 impl Model for Outcome {
@@ -31,7 +34,7 @@ impl Model for Outcome {
     ghost view = { λ o. record {
       numbers = o.finalised.items;
       last = o.last;
-      prefinalises = o.prefinalises;
+      calls_back = o.calls_back;
       room = vec_capacity o.finalised;
     } };
 
@@ -45,7 +48,7 @@ impl Outcome {
             ≡ record {
               numbers = [];
               last = None;
-              prefinalises = false;
+              calls_back = false;
               room = room;
             }) }
     {
@@ -53,24 +56,26 @@ impl Outcome {
         Ok(Outcome {
             finalised,
             last: None,
-            prefinalises: false,
+            calls_back: false,
         })
     }
 
     /// Forgets the finalised nodes; the last line stays until another takes its place.
     pub fn begin(&mut self)
-        ensures { self.new ≡ record self.old { numbers = []; prefinalises = false } }
+        ensures { self.new ≡ record self.old { numbers = []; calls_back = false } }
     {
         self.finalised.clear();
-        self.prefinalises = false;
+        self.calls_back = false;
     }
 
-    /// The lines of these prefinalizers, which the pause ran, follow the last line. That it ran none
-    /// is noted here, so that `only_line` need not look at them.
-    pub fn prefinalise(&mut self, ran: &[(u32, u32)])
-        ensures { self.new ≡ record self.old { prefinalises = not (length ran.now == 0) } }
+    /// The lines of the callbacks that the pause ran follow the last line. That it ran none is noted
+    /// here, so that `only_line` need not look at them.
+    pub fn call_back(&mut self, registered: &Registrations)
+        ensures { self.new ≡ record self.old {
+          calls_back = not (count_ran (ran_of registered.now) == 0);
+        } }
     {
-        self.prefinalises = !ran.is_empty();
+        self.calls_back = count_ran(registered) > 0;
     }
 
     /// Adds the last line.
@@ -80,30 +85,30 @@ impl Outcome {
         self.last = Some(line);
     }
 
-    /// How many lines there are, once the last one ended it, where the last pause ran these
-    /// prefinalizers.
-    pub fn count(&self, ran: &[(u32, u32)]) -> u64
+    /// How many lines there are, once the last one ended it, where these registrations tell what the
+    /// last pause ran.
+    pub fn count(&self, registered: &Registrations) -> u64
         requires ended { self.now.last ≡ None → ⊥ }
-        ensures count { result ≡ length (outcome_lines self.now ran.now) }
+        ensures count { result ≡ length (outcome_lines self.now (ran_of registered.now)) }
         ensures some { 0 < result }
     {
-        let prefinalised = if self.prefinalises {
-            ran.len() as u64
+        let called_back = if self.calls_back {
+            count_ran(registered) as u64
         } else {
             0
         };
-        self.finalised.len() as u64 + 1 + prefinalised
+        self.finalised.len() as u64 + 1 + called_back
     }
 
-    /// The last of the lines, where the last pause ran these prefinalizers.
-    pub fn last_line(&self, ran: &[(u32, u32)]) -> Line
+    /// The last of the lines, where these registrations tell what the last pause ran.
+    pub fn last_line(&self, registered: &Registrations) -> Line
         requires ended { self.now.last ≡ None → ⊥ }
-        requires ran { TellsThoseThatRan self.now ran.now }
-        ensures { slice_get (outcome_lines self.now ran.now)
-            (length (outcome_lines self.now ran.now) - 1) ≡ Some result }
+        requires ran { TellsThoseThatRan self.now (ran_of registered.now) }
+        ensures { slice_get (outcome_lines self.now (ran_of registered.now))
+            (length (outcome_lines self.now (ran_of registered.now)) - 1) ≡ Some result }
     {
-        if self.prefinalises {
-            return prefinalise_line(ran[ran.len() - 1]);
+        if self.calls_back {
+            return ran_line(registered, count_ran(registered) - 1);
         }
         match &self.last {
             Some(line) => *line,
@@ -112,18 +117,18 @@ impl Outcome {
     }
 
     /// The line of the outcome, where it has one alone, unless that tells a finalised node or a
-    /// prefinalizer, whichever the last pause ran.
+    /// callback, whichever the last pause ran.
     pub fn only_line(&self) -> Option<&Line>
-        ensures line { IfSome result (λ line. (ran : List (ℕ × ℕ))
+        ensures line { IfSome result (λ line. (ran : Ran)
             → outcome_lines self.now ran ≡ line.now ∷ []) }
-        ensures none { IfNone result ((ran : List (ℕ × ℕ)) (line : Line)
+        ensures none { IfNone result ((ran : Ran) (line : Line)
             → TellsThoseThatRan self.now ran → outcome_lines self.now ran ≡ line ∷ []
             → TellsNode line) }
     {
         if !self.finalised().is_empty() {
             return None;
         }
-        if self.prefinalises {
+        if self.calls_back {
             return None;
         }
         match &self.last {
@@ -139,27 +144,47 @@ impl Outcome {
         &self.finalised
     }
 
-    /// A line of the outcome, where the last pause ran these prefinalizers.
-    pub fn line(&self, index: u64, ran: &[(u32, u32)]) -> Line
-        requires { index < length (outcome_lines self.now ran.now) }
-        ensures { slice_get (outcome_lines self.now ran.now) index ≡ Some result }
+    /// A line of the outcome, where these registrations tell what the last pause ran.
+    pub fn line(&self, index: u64, registered: &Registrations) -> Line
+        requires { index < length (outcome_lines self.now (ran_of registered.now)) }
+        ensures { slice_get (outcome_lines self.now (ran_of registered.now)) index ≡ Some result }
     {
         match self.finalised.get(index as usize) {
             Some(number) => Line::Finalise { k: *number },
-            None => self.later_line(index - self.finalised.len() as u64, ran),
+            None => self.later_line(index - self.finalised.len() as u64, registered),
         }
     }
 
     /// A line after those of the finalised nodes.
-    fn later_line(&self, index: u64, ran: &[(u32, u32)]) -> Line
-        requires { index < length (later_lines self.now ran.now) }
-        ensures { slice_get (later_lines self.now ran.now) index ≡ Some result }
+    fn later_line(&self, index: u64, registered: &Registrations) -> Line
+        requires { index < length (later_lines self.now (ran_of registered.now)) }
+        ensures { slice_get (later_lines self.now (ran_of registered.now)) index ≡ Some result }
     {
         match self.last {
             Some(line) if index == 0 => line,
-            Some(_) => prefinalise_line(ran[index as usize - 1]),
-            None => prefinalise_line(ran[index as usize]),
+            Some(_) => ran_line(registered, index as usize - 1),
+            None => ran_line(registered, index as usize),
         }
+    }
+}
+
+/// How many callbacks the last pause ran.
+fn count_ran(registered: &Registrations) -> usize
+    ensures count { result ≡ spec.count_ran (ran_of registered.now) }
+    ensures few { result < 2 ^ 63 + 2 ^ 32 }
+{
+    registered.weak_callbacks.ran().len() + registered.prefinalizers.ran().len()
+}
+
+/// The line of a callback that the last pause ran: first the weak ones, and then the prefinalizers.
+fn ran_line(registered: &Registrations, index: usize) -> Line
+    requires { index < spec.count_ran (ran_of registered.now) }
+    ensures { slice_get (all_ran (ran_of registered.now)) index ≡ Some result }
+{
+    let weak = registered.weak_callbacks.ran();
+    match weak.get(index) {
+        Some(ran) => Line::WeakCall { k: ran.0, d: ran.1 },
+        None => prefinalise_line(registered.prefinalizers.ran()[index - weak.len()]),
     }
 }
 

@@ -12,25 +12,32 @@ ghost use Rattle.heap_cycle.specs.Parts.{setup_of, state_of, IsManned, IsReady, 
 
 use crate::outcome::Outcome;
 use crate::parts::Parts;
+use callback_table::LastRegistered;
 
 /// Where a new object of the size goes: the lowest place in the pages that are swept; else pages
 /// are swept one by one until it fits in one of these; else the lowest run of pages without objects.
-/// Its registrations are the last ones, so many, and no part of the state yet.
-pub fn place_for(parts: &mut Parts, count: u32, size: u32, outcome: &mut Outcome) -> Option<u32>
-    requires ready { IsReady (unregistered count parts.old) }
+/// Its registrations are these last ones, and no part of the state yet.
+pub fn place_for(
+    parts: &mut Parts,
+    last: LastRegistered,
+    size: u32,
+    outcome: &mut Outcome,
+) -> Option<u32>
+    requires ready { IsReady (unregistered last parts.old) }
     requires some { 2 ≤ size }
     requires most { size < 2 ^ 26 }
     requires empty { outcome.old.numbers ≡ [] }
     requires room { word_count parts.old.objects.shape ≤ 2 * outcome.old.room }
     ensures placed { IsPlacement parts.old.objects.shape
-        (state_of (unregistered count parts.old)) size outcome.new.numbers
-        (state_of (unregistered count parts.new)) result }
-    ensures ready { IsReady (unregistered count parts.new) }
+        (state_of (unregistered last parts.old)) size outcome.new.numbers
+        (state_of (unregistered last parts.new)) result }
+    ensures ready { IsReady (unregistered last parts.new) }
     ensures free { IfSome result
         (IsFreePlace parts.new.objects.shape (extents_of parts.new.objects.nodes) size) }
     ensures swept { IfSome result
         (λ a. a < cursor_at parts.new.objects.shape parts.new.cycle.sweep) }
     ensures registered { parts.new.cycle.registered ≡ parts.old.cycle.registered }
+    ensures weakly { parts.new.cycle.weakly ≡ parts.old.cycle.weakly }
     ensures setup { setup_of parts.new ≡ setup_of parts.old }
     ensures grey { parts.new.objects.grey ≡ parts.old.objects.grey }
     ensures manned { IsManned parts.old → IsManned parts.new }
@@ -46,7 +53,7 @@ pub fn place_for(parts: &mut Parts, count: u32, size: u32, outcome: &mut Outcome
     if let Some(place) = parts.objects.find(size, 0, swept) {
         return Some(place);
     }
-    if let Some(place) = sweep_until_found(parts, count, size, &mut outcome.finalised) {
+    if let Some(place) = sweep_until_found(parts, last, size, &mut outcome.finalised) {
         return Some(place);
     }
     parts.objects.find_empty(size)
@@ -55,11 +62,11 @@ pub fn place_for(parts: &mut Parts, count: u32, size: u32, outcome: &mut Outcome
 /// Sweeps page after page until the object fits in the last of them.
 fn sweep_until_found(
     parts: &mut Parts,
-    count: u32,
+    last: LastRegistered,
     size: u32,
     finalised: &mut Vec<u32>,
 ) -> Option<u32>
-    requires ready { IsReady (unregistered count parts.old) }
+    requires ready { IsReady (unregistered last parts.old) }
     requires some { 2 ≤ size }
     requires empty { finalised.old.items ≡ [] }
     requires told { AreFewTold parts.old.objects.shape
@@ -69,19 +76,20 @@ fn sweep_until_found(
         parts.old.cycle.sweep.cursor (extents_of parts.old.objects.nodes) size) }
     requires room { word_count parts.old.objects.shape ≤ 2 * vec_capacity finalised.old }
     ensures placed { IfSome result (λ a. IsPlacement parts.old.objects.shape
-        (state_of (unregistered count parts.old)) size finalised.new.items
-        (state_of (unregistered count parts.new)) (Some a)) }
+        (state_of (unregistered last parts.old)) size finalised.new.items
+        (state_of (unregistered last parts.new)) (Some a)) }
     ensures searched { IfNone result (IsSearched parts.old.objects.shape
-        (state_of (unregistered count parts.old)) size
+        (state_of (unregistered last parts.old)) size
         parts.old.objects.shape.pages finalised.new.items
-        (state_of (unregistered count parts.new))) }
+        (state_of (unregistered last parts.new))) }
     ensures all { IfNone result (parts.new.cycle.sweep.cursor ≡ parts.old.objects.shape.pages) }
-    ensures ready { IsReady (unregistered count parts.new) }
+    ensures ready { IsReady (unregistered last parts.new) }
     ensures free { IfSome result
         (IsFreePlace parts.new.objects.shape (extents_of parts.new.objects.nodes) size) }
     ensures swept { IfSome result
         (λ a. a < cursor_at parts.new.objects.shape parts.new.cycle.sweep) }
     ensures registered { parts.new.cycle.registered ≡ parts.old.cycle.registered }
+    ensures weakly { parts.new.cycle.weakly ≡ parts.old.cycle.weakly }
     ensures setup { setup_of parts.new ≡ setup_of parts.old }
     ensures grey { parts.new.objects.grey ≡ parts.old.objects.grey }
     ensures manned { IsManned parts.old → IsManned parts.new }

@@ -18,13 +18,13 @@ use gc_graph::{Line, Phase, Refusal};
 pub fn sweep_some(parts: &mut Parts, outcome: &mut Outcome, n: u32) -> Line
     requires ready { IsReady parts.old }
     requires numbers { outcome.old.numbers ≡ [] }
-    requires calm { outcome.old.prefinalises ≡ false }
+    requires calm { outcome.old.calls_back ≡ false }
     requires room { word_count parts.old.objects.shape ≤ 2 * outcome.old.room }
     ensures step { StepSweep (setup_of parts.old) (state_of parts.old) n
         (lines_with outcome.new parts.new.cycle.ran result) (answered (state_of parts.new)) }
     ensures frame { IsFrame parts.old (counted parts.new) result }
     ensures region { parts.new.region ≡ parts.old.region }
-    ensures calm { outcome.new.prefinalises ≡ false }
+    ensures calm { outcome.new.calls_back ≡ false }
     ensures room { outcome.new.room ≡ outcome.old.room }
 {
     match parts.cycle.phase() {
@@ -42,13 +42,13 @@ pub fn sweep_some(parts: &mut Parts, outcome: &mut Outcome, n: u32) -> Line
 pub fn sweep_all(parts: &mut Parts, outcome: &mut Outcome) -> Line
     requires ready { IsReady parts.old }
     requires numbers { outcome.old.numbers ≡ [] }
-    requires calm { outcome.old.prefinalises ≡ false }
+    requires calm { outcome.old.calls_back ≡ false }
     requires room { word_count parts.old.objects.shape ≤ 2 * outcome.old.room }
     ensures step { StepSweepAll (setup_of parts.old) (state_of parts.old)
         (lines_with outcome.new parts.new.cycle.ran result) (answered (state_of parts.new)) }
     ensures frame { IsFrame parts.old (counted parts.new) result }
     ensures region { parts.new.region ≡ parts.old.region }
-    ensures calm { outcome.new.prefinalises ≡ false }
+    ensures calm { outcome.new.calls_back ≡ false }
     ensures room { outcome.new.room ≡ outcome.old.room }
 {
     match parts.cycle.phase() {

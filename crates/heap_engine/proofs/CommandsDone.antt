@@ -54,14 +54,14 @@ module _ (command : Command) (s new : Parts) (before o : Printed) (line : Line) 
         (sym (ended_alone before o new.cycle.ran line is nothing.numbers nothing.calm)) step;
     frame = subst (IsFrame s (counted new)) (sym (last_is before o line is)) frame;
     region = region;
-    ran = λ runs. absurd (true≢false (sym runs ∙ (ap (λ (p : Printed). p.prefinalises) is ∙ nothing.calm)));
+    ran = λ runs. absurd (true≢false (sym runs ∙ (ap (λ (p : Printed). p.calls_back) is ∙ nothing.calm)));
     done = λ n t step told. absurd (other n step);
     took = λ n step some. absurd (other n step);
     room = ap (λ (p : Printed). p.room) is;
   }
 
   -- the same, where it tells what it finalises before
-  pub lines_done : (begun : Printed) → before.prefinalises ≡ false → before.room ≡ begun.room → Step (setup_of s) (state_of s) command [] (lines_with before new.cycle.ran line) (answered (state_of new))
+  pub lines_done : (begun : Printed) → before.calls_back ≡ false → before.room ≡ begun.room → Step (setup_of s) (state_of s) command [] (lines_with before new.cycle.ran line) (answered (state_of new))
       → IsFrame s (counted new) line → new.region ≡ s.region → leaves_region command ≡ true → IsNoStep command → IsDoneAlone command s new begun o
   lines_done begun calm room step frame region alone other = record {
     alone = alone;
@@ -69,7 +69,7 @@ module _ (command : Command) (s new : Parts) (before o : Printed) (line : Line) 
     step = rw is step;
     frame = subst (IsFrame s (counted new)) (sym (last_is before o line is)) frame;
     region = region;
-    ran = λ runs. absurd (true≢false (sym runs ∙ (ap (λ (p : Printed). p.prefinalises) is ∙ calm)));
+    ran = λ runs. absurd (true≢false (sym runs ∙ (ap (λ (p : Printed). p.calls_back) is ∙ calm)));
     done = λ n t step told. absurd (other n step);
     took = λ n step some. absurd (other n step);
     room = ap (λ (p : Printed). p.room) is ∙ room;
@@ -174,7 +174,7 @@ taking_done command s new begun before o line lines is told other no_step asked 
 
 -- once the last command tells nothing more, and the outcome has begun, a command may be done
 pub asked_of : (h : Inside) (quiet : OwnedView) (begun : Printed) → IsSound h → h.closed ≡ false → quiet ≡ record h.parts.region { told = [] }
-    → begun ≡ record h.outcome { numbers = []; prefinalises = false } → IsAsked (record h.parts { region = quiet }) begun
+    → begun ≡ record h.outcome { numbers = []; calls_back = false } → IsAsked (record h.parts { region = quiet }) begun
 asked_of h quiet begun sound opened is empty =
     let region : HasRegion h.parts = sound.region opened in
     subst (λ (v : OwnedView). IsAsked (record h.parts { region = v }) begun) (sym is) (record {
@@ -183,7 +183,7 @@ asked_of h quiet begun sound opened is empty =
       quiet = refl;
       none_out = sound.none_out;
       counted = sound.counted;
-      nothing = record { numbers = ap (λ (o : Printed). o.numbers) empty; calm = ap (λ (o : Printed). o.prefinalises) empty };
+      nothing = record { numbers = ap (λ (o : Printed). o.numbers) empty; calm = ap (λ (o : Printed). o.calls_back) empty };
       room = omega (arith, sound.room, ap (λ (o : Printed). o.room) empty);
     })
   where
@@ -196,6 +196,7 @@ asked_of h quiet begun sound opened is empty =
         weak = ready.tied.weak;
         stack = ready.tied.stack;
         registered = ready.tied.registered;
+        weakly = ready.tied.weakly;
         sweep = ready.tied.sweep;
         marks = ready.tied.marks;
         traced = ready.tied.traced;
@@ -210,7 +211,7 @@ quiet s = record s { region = record s.region { told = [] } }
 -- what was done was carried out
 pub carried_out : (command : Command) (h : Inside) (found : OwnedView) (begun : Printed) (new : Parts) (o : Printed) → StepsFollow → NodesStayPut
     → 0 < h.parts.objects.shape.pages → IsAllowed (length h.parts.objects.types) command → IsSound h → h.closed ≡ false
-    → found ≡ record h.parts.region { told = [] } → begun ≡ record h.outcome { numbers = []; prefinalises = false }
+    → found ≡ record h.parts.region { told = [] } → begun ≡ record h.outcome { numbers = []; calls_back = false }
     → IsCommandDone command (record h.parts { region = found }) new begun o → IsCarriedOut command (quiet h.parts) new begun o
 carried_out command h found begun new o follow stay some allowed sound opened is empty done =
     elim (subst (λ (v : OwnedView). IsCommandDone command (record h.parts { region = v }) new begun o) is done) [

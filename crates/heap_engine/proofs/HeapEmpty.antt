@@ -37,7 +37,7 @@ abbrev pub empty_parts : Heap → Shape → ℕ → List ObjectType → List Act
 empty_parts heap shape markers types callbacks = record {
   objects = record { shape = shape; types = types; callbacks = callbacks; nodes = []; seat = empty_view heap types; grey = no_grey markers };
   handles = record { places = replicate 256 None; slots = replicate 256 None; weak_places = replicate 64 None; weak = replicate 64 None; stack = empty_stack };
-  cycle = record { phase = Idle; sweep = record { pages = shape.pages; cursor = shape.pages }; registered = []; ran = []; rest = empty_state };
+  cycle = record { phase = Idle; sweep = record { pages = shape.pages; cursor = shape.pages }; registered = []; weakly = []; ran = record { weak = []; prefinalised = [] }; rest = empty_state };
   region = nothing_owned;
 }
 
@@ -74,6 +74,7 @@ ready_empty s heap shape markers types callbacks law called is =
         weak = null_places 64;
         stack = record { addresses = refl; places = refl; inside = λ k d low. absurd (omega (arith, low)) };
         registered = λ k d low. absurd (omega arith);
+        weakly = refl;
         sweep = record { pages = refl; cursor_is = refl };
         marks = (
           record {

@@ -30,7 +30,8 @@ use Rattle.heap_cycle.specs.declared.parts.Parts.{Parts}
 use Rattle.heap_cycle.specs.Cycles.{AreSlotsMarked, IsNoneGrey, HasNoRefusedNote, HasNoRefusedPush}
 use Rattle.heap_cycle.specs.KeptRoots.{marking_of}
 use Rattle.heap_cycle.specs.Parts.{setup_of, state_of, AreTied, IsManned, IsReady}
-use Rattle.heap_cycle.specs.Printed.{Printed, ran_lines, lines_with}
+use Rattle.heap_cycle.specs.Views.{Ran}
+use Rattle.heap_cycle.specs.Printed.{Printed, all_ran, ran_lines, lines_with}
 use Rattle.heap_cycle.specs.Region.{HasRegion}
 use Rattle.heap_cycle.specs.Pages.{word_count}
 use Rattle.heap_engine.specs.Acted.{IsDealtWith}
@@ -38,13 +39,22 @@ use Rattle.heap_engine.specs.Sound.{items_of}
 
 -- ---- which line tells it
 
-none_started : (runs : Bool) (ran : List (ℕ × ℕ)) → Contains (ran_lines runs ran) L.Started → ⊥
+no_callback_starts : (weak prefinalised : List (ℕ × ℕ)) → Contains (all_ran (record { weak = weak; prefinalised = prefinalised })) L.Started → ⊥
+no_callback_starts [] [] there = omega (arith, there.1)
+no_callback_starts [] (r ∷ prefinalised) there =
+    elim (Contains-cons_cases (L.Prefinalise r.0 r.1) (all_ran (record { weak = []; prefinalised = prefinalised })) L.Started there) [
+      | inl here ↦ cc
+      | inr later ↦ no_callback_starts [] prefinalised later
+    ]
+no_callback_starts (r ∷ weak) prefinalised there =
+    elim (Contains-cons_cases (L.WeakCall r.0 r.1) (all_ran (record { weak = weak; prefinalised = prefinalised })) L.Started there) [
+      | inl here ↦ cc
+      | inr later ↦ no_callback_starts weak prefinalised later
+    ]
+
+none_started : (runs : Bool) (ran : Ran) → Contains (ran_lines runs ran) L.Started → ⊥
 none_started false ran there = omega (arith, there.1)
-none_started true [] there = omega (arith, there.1)
-none_started true (r ∷ ran) there = elim (Contains-cons_cases (L.Prefinalise r.0 r.1) (ran_lines true ran) L.Started there) [
-  | inl here ↦ cc
-  | inr later ↦ none_started true ran later
-]
+none_started true ran there = no_callback_starts ran.weak ran.prefinalised there
 
 started_after : (numbers : List ℕ) (line : Line) (others : List Line) → (Contains others L.Started → ⊥) → Contains (finalise_lines numbers ++ line ∷ others) L.Started → line ≡ L.Started
 started_after [] line others none there = elim (Contains-cons_cases line others L.Started there) [ inl here ↦ here | inr later ↦ absurd (none later) ]
@@ -55,16 +65,16 @@ started_after (n ∷ numbers) line others none there =
     ]
 
 -- the line of a command is the start that its lines tell
-pub started_last : (o : Printed) (ran : List (ℕ × ℕ)) (line : Line) → Contains (lines_with o ran line) L.Started → line ≡ L.Started
-started_last o ran line there = started_after o.numbers line (ran_lines o.prefinalises ran) (none_started o.prefinalises ran) there
+pub started_last : (o : Printed) (ran : Ran) (line : Line) → Contains (lines_with o ran line) L.Started → line ≡ L.Started
+started_last o ran line there = started_after o.numbers line (ran_lines o.calls_back ran) (none_started o.calls_back ran) there
 
 stepped_after : (numbers : List ℕ) (last : Line) (others : List Line) (t : ℕ) (done : Bool) → finalise_lines numbers ++ last ∷ others ≡ L.Step t done ∷ [] → last ≡ L.Step t done
 stepped_after [] last others t done is = cc
 stepped_after (n ∷ numbers) last others t done is = cc
 
 -- and the step
-pub stepped_last : (o : Printed) (ran : List (ℕ × ℕ)) (line : Line) (t : ℕ) (done : Bool) → lines_with o ran line ≡ L.Step t done ∷ [] → line ≡ L.Step t done
-stepped_last o ran line t done is = stepped_after o.numbers line (ran_lines o.prefinalises ran) t done is
+pub stepped_last : (o : Printed) (ran : Ran) (line : Line) (t : ℕ) (done : Bool) → lines_with o ran line ≡ L.Step t done ∷ [] → line ≡ L.Step t done
+stepped_last o ran line t done is = stepped_after o.numbers line (ran_lines o.calls_back ran) t done is
 
 -- ---- a start
 

@@ -1,12 +1,12 @@
 -- The step of a new object.
-use Rattle.std.proofs.Common.{◌≡◌, ℕ, ◌<◌, List, [], ◌∷◌, ◌++◌, length, map, set, Bool, Option, Some, None, option_map, refl, sym, ap, ◌∙◌, subst, inr, arith}
+use Rattle.std.proofs.Common.{◌≡◌, ℕ, ◌<◌, List, [], ◌∷◌, ◌++◌, length, get_or, map, set, Bool, true, Option, Some, None, option_map, refl, sym, ap, ◌∙◌, subst, inr, arith}
 use Rattle.std.specs.List.{All}
 use Rattle.std.specs.Option.{ForSome}
 use Rattle.std.proofs.lemmas.List.{length_push, map-set}
 use Rattle.std.proofs.lemmas.List.Elements.{All-get_or, All-head, All-tail, All-append, All-map, All-weaker}
 use Rattle.gc_graph.specs.declared.line.Line.{Line}
 use Rattle.gc_graph.specs.declared.line.Line.TheVariants as L
-use Rattle.gc_graph.specs.State.{Setup, State, ObjectType, Node, Registration, type_at, no_type, IsLive, stack_targets}
+use Rattle.gc_graph.specs.State.{Setup, State, ObjectType, Node, Registration, type_at, no_type, is_live, IsLive, stack_targets}
 use Rattle.gc_graph.specs.Placement.{IsPlacement}
 use Rattle.gc_graph.specs.Fields.{new_node, size_of_type}
 use Rattle.gc_graph.specs.May.{may_with_new}
@@ -14,6 +14,9 @@ use Rattle.gc_graph.specs.Outcomes.{answered, finalise_lines, with_slot}
 use Rattle.gc_graph.specs.ObjectSteps.{StepNew, with_new, registrations_for}
 use Rattle.callback_table.specs.declared.registry.Registered.{Registered}
 use Rattle.callback_table.specs.Registry.{registrations_of, registered}
+use Rattle.callback_table.specs.Registrations.{weakly_registered_all}
+use Rattle.heap_cycle.specs.WeakCalling.{AreOfHolders}
+use Rattle.heap_cycle.specs.WeakHolders.{holder_joins}
 use Rattle.heap_cycle.specs.Sweeping.{cursor_at}
 use Rattle.heap_cycle.specs.Nodes.{place_of}
 use Rattle.heap_cycle.specs.PlacesInWords.{places_of_slots}
@@ -104,10 +107,10 @@ registered_made s new t place x ready low at nodes callbacks =
 
 -- the places of the slots, strong and weak, are as before, and slot p's is that of the new node
 pub tied_made : (s : Parts) (new : ObjectsView) (after : HandlesView) (left : CycleView) (p t place number : ℕ) (x : Node) → IsReady s → t < length s.objects.types
-    → HasMarks s.cycle.phase (cursor_at s.objects.shape s.cycle.sweep) (may_with_new s.cycle.phase s.cycle.rest.may) new → new.grey ≡ s.objects.grey
+    → is_live x.life ≡ true → x.object.ty ≡ t → HasMarks s.cycle.phase (cursor_at s.objects.shape s.cycle.sweep) (may_with_new s.cycle.phase s.cycle.rest.may) new → new.grey ≡ s.objects.grey
     → setup_of_objects new ≡ setup_of s → number ≡ length s.objects.nodes → x.place ≡ place → new.nodes ≡ s.objects.nodes ++ x ∷ [] → left ≡ made_cycle s t place → after ≡ put_in s.handles p (Some (place, number))
     → AreTied (counted (record s { objects = new; handles = after; cycle = left }))
-tied_made s new after left p t place number x ready low marks grey setup counts at nodes registers put =
+tied_made s new after left p t place number x ready low live typed marks grey setup counts at nodes registers put =
     let old : List Node = s.objects.nodes in
     let now : List Node = old ++ x ∷ [] in
     let h : HandlesView = s.handles in
@@ -130,6 +133,12 @@ tied_made s new after left p t place number x ready low marks grey setup counts 
           (All-weaker (IsLive old) (StaysAt old now) (λ n is. stays-old old x n (there_below old n (live_is_there old n is)))
           (stack_targets h.stack.words) ready.valid.stack) tied.stack));
       registered = registered_made s new t place x ready low at nodes callbacks;
+      weakly = subst (λ (ts : List ObjectType). AreOfHolders ts new.nodes (registered_in s t place).cycle.weakly) (sym (ap (λ (st : Setup). st.types) setup))
+          (subst (λ (ns : List Node). AreOfHolders s.objects.types ns (registered_in s t place).cycle.weakly) (sym nodes)
+          (subst (λ numbers. AreOfHolders s.objects.types now (y.weakly ++ numbers))
+          (ap (λ ty. weakly_registered_all (length old) x.place (get_or s.objects.types ty no_type).weak_callbacks) typed
+          ∙ ap (λ a. weakly_registered_all (length old) a (type_at (setup_of s) t).weak_callbacks) at)
+          (holder_joins s.objects.types old x live y.weakly tied.weakly)));
       sweep = subst (λ (st : Setup). IsSweepOf st.shape y.phase y.rest.cursor y.sweep) (sym setup) tied.sweep;
       marks = subst (λ (st : Setup). HasMarks y.phase (cursor_at st.shape y.sweep) (may_with_new y.phase y.rest.may) new) (sym setup) marks;
       traced = ap (λ (g : GreyView). g.traced) grey ∙ tied.traced;

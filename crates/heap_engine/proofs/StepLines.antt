@@ -15,7 +15,9 @@ use Rattle.gc_graph.specs.State.{Setup, State}
 use Rattle.gc_graph.specs.Outcomes.{IsRefused, finalise_lines, took}
 use Rattle.gc_graph.specs.ObjectSteps.{StepNew}
 use Rattle.gc_graph.specs.CycleSteps.{StepGcStart, StepGcFinish, StepGcNow, StepSweepTo, WantsMemory, IsBegun, IsPause, IsCollection, is_marking, is_sweeping, is_stack_refused}
-use Rattle.gc_graph.specs.Pause.{condemn, live_count, dead_count, run_order, prefinalise_lines}
+use Rattle.gc_graph.specs.Pause.{condemn, live_count, dead_count, run_order}
+use Rattle.gc_graph.specs.Paused.{callback_lines}
+use Rattle.gc_graph.specs.WeakCalls.{weak_calls}
 use Rattle.gc_graph.specs.Step.{Step}
 use Rattle.heap_cycle.specs.Printed.{TellsNode}
 
@@ -75,7 +77,7 @@ collected setup want old piece lines new (inr is) = record {
   numbers = is.numbers;
   line = L.Pause (live_count (condemn is.pause.kept (took is.started is.pause.before).nodes)) (dead_count (condemn is.pause.kept (took is.started is.pause.before).nodes))
       is.pause.done.crew is.pause.done.traced is.pause.done.walked;
-  others = prefinalise_lines (run_order (condemn is.pause.kept (took is.started is.pause.before).nodes) (took is.started is.pause.before).registrations);
+  others = callback_lines (weak_calls setup.types (condemn is.pause.kept (took is.started is.pause.before).nodes)) (run_order (condemn is.pause.kept (took is.started is.pause.before).nodes) (took is.started is.pause.before).registrations);
   lines_are = is.lines_are ∙ ap (λ ls. finalise_lines is.numbers ++ ls) is.pause.done.lines_are;
   plain = λ node. node;
 }
@@ -97,7 +99,7 @@ pauses : (setup : Setup) (markers : ℕ) (want : Want) (old : State) (piece : Li
 pauses setup markers want old piece lines new is = record {
   numbers = [];
   line = L.Pause (live_count (condemn is.kept (took old is.before).nodes)) (dead_count (condemn is.kept (took old is.before).nodes)) is.done.crew is.done.traced is.done.walked;
-  others = prefinalise_lines (run_order (condemn is.kept (took old is.before).nodes) (took old is.before).registrations);
+  others = callback_lines (weak_calls setup.types (condemn is.kept (took old is.before).nodes)) (run_order (condemn is.kept (took old is.before).nodes) (took old is.before).registrations);
   lines_are = is.done.lines_are;
   plain = λ other. other;
 }

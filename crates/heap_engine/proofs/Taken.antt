@@ -19,6 +19,7 @@ use Rattle.cross_thread_region.specs.Histories.{entries_of, is_started, slots_of
 use Rattle.cross_thread_region.specs.NextEntries.{started_next}
 use Rattle.cross_thread_region.specs.OrdersStay.{placed_after, slots_on, started_on}
 use Rattle.cross_thread_region.specs.PlacedNodes.{placed_next}
+use Rattle.heap_cycle.specs.FieldNodes.{holders_same}
 use Rattle.heap_cycle.specs.Calls.{HasEntered, TakesMore}
 use Rattle.heap_cycle.specs.Changes.{with_taken}
 use Rattle.heap_cycle.specs.Handled.{IsHandled, LooksAgain}
@@ -81,7 +82,7 @@ module _ (s : Parts) (o : ObjectsView) (r : OwnedView) (more : List PlacedEntry)
       let with_seat : ObjectsView = record s.objects { seat = o.seat } in
       let whole : AreTied (taken_parts s with_seat r) =
       still_tied (tied_nodes s with_seat (record s.cycle { rest = with_taken (moment_of s) r.taken s.cycle.rest }) tied (λ n. (refl, refl)) refl refl
-      tied.sweep (subst (HasMarks s.cycle.phase (cursor_at s.objects.shape s.cycle.sweep) (took (state_of s) (piece_of s.region r)).may) looked.others marks) tied.traced tied.made) in
+      (holders_same s.objects.nodes) refl tied.sweep (subst (HasMarks s.cycle.phase (cursor_at s.objects.shape s.cycle.sweep) (took (state_of s) (piece_of s.region r)).may) looked.others marks) tied.traced tied.made) in
       subst (λ (x : ObjectsView). AreTied (taken_parts s x r)) (sym looked.others) whole
     where
       still_tied : {t : Parts} → AreTied t → AreTied (record t { region = r })
@@ -90,6 +91,7 @@ module _ (s : Parts) (o : ObjectsView) (r : OwnedView) (more : List PlacedEntry)
         weak = tied.weak;
         stack = tied.stack;
         registered = tied.registered;
+        weakly = tied.weakly;
         sweep = tied.sweep;
         marks = tied.marks;
         traced = tied.traced;

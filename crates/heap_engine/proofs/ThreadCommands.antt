@@ -97,7 +97,7 @@ module _ (s : Parts) (begun o : Printed) (objects : ObjectsView) (r : OwnedView)
         count = m;
         last = ap (λ (p : Printed). p.last) ended;
         numbers = ap (λ (p : Printed). p.numbers) ended ∙ asked.nothing.numbers;
-        calm = ap (λ (p : Printed). p.prefinalises) ended ∙ asked.nothing.calm;
+        calm = ap (λ (p : Printed). p.calls_back) ended ∙ asked.nothing.calm;
       } in
       let frame : IsFrame s (counted new) (L.Joined m) = record {
         setup = ap setup_of_objects looked.others;
@@ -121,7 +121,7 @@ module _ (s : Parts) (begun o : Printed) (objects : ObjectsView) (r : OwnedView)
           totals = is.totals;
           fall = is.fall;
         };
-        ran = λ runs. absurd (true≢false (sym runs ∙ ap (λ (p : Printed). p.prefinalises) ended ∙ asked.nothing.calm));
+        ran = λ runs. absurd (true≢false (sym runs ∙ ap (λ (p : Printed). p.calls_back) ended ∙ asked.nothing.calm));
         marked = λ start told. cc;
         done = λ n t step told. cc;
         took = λ n step some. cc;

@@ -16,6 +16,7 @@ use Rattle.gc_graph.specs.RegionSteps.Answer.{Replied, Told}
 use Rattle.std.specs.List.{flat_map}
 use Rattle.heap_cycle.specs.Owned.{IsToldLine}
 use Rattle.heap_cycle.specs.Refused.{RefusalsTold}
+use Rattle.heap_cycle.specs.Views.{Ran}
 use Rattle.heap_cycle.specs.Printed.{Printed, TellsNode, finalised_in, later_lines, outcome_lines, ran_lines}
 use Rattle.heap_cycle.specs.Walks.{IsWalkToldIn}
 use Rattle.heap_engine.specs.CarriedOut.{IsOfJoin}
@@ -94,7 +95,7 @@ get_later (x ∷ xs) ys (suc i) low =
 -- ---- the finalised nodes of an outcome, whose lines come first
 
 -- they are not more than its lines
-pub finalised_few : (told : List Line) (o : Printed) (ran : List (ℕ × ℕ)) → length o.numbers ≤ length (told ++ outcome_lines o ran)
+pub finalised_few : (told : List Line) (o : Printed) (ran : Ran) → length o.numbers ≤ length (told ++ outcome_lines o ran)
 finalised_few told o ran =
     omega (
       arith,
@@ -104,7 +105,7 @@ finalised_few told o ran =
     )
 
 -- after a join there are none, and else a join's lines are not told
-pub finalised_first : (told : List Line) (o : Printed) (ran : List (ℕ × ℕ)) → (told ≡ []) ⊎ IsOfJoin o
+pub finalised_first : (told : List Line) (o : Printed) (ran : Ran) → (told ≡ []) ⊎ IsOfJoin o
     → take (length o.numbers) (told ++ outcome_lines o ran) ≡ finalise_lines o.numbers
 finalised_first told o ran (inl quiet) =
     ap (λ ls. take (length o.numbers) (ls ++ outcome_lines o ran)) quiet
@@ -115,7 +116,7 @@ finalised_first told o ran (inr join) =
 -- ---- an outcome of one line
 
 -- where a join tells some lines they are not all
-pub joined_long : (told : List Line) (o : Printed) (ran : List (ℕ × ℕ)) → 0 < length told → (told ≡ []) ⊎ IsOfJoin o → (line : Line)
+pub joined_long : (told : List Line) (o : Printed) (ran : Ran) → 0 < length told → (told ≡ []) ⊎ IsOfJoin o → (line : Line)
     → told ++ outcome_lines o ran ≡ line ∷ [] → TellsNode line
 joined_long told o ran some (inl quiet) line is = absurd (omega (arith, some, ap length quiet))
 joined_long told o ran some (inr join) line is =
@@ -127,7 +128,7 @@ joined_long told o ran some (inr join) line is =
       last,
       length-append told (outcome_lines o ran),
       length-append (finalise_lines o.numbers) (later_lines o ran),
-      length-append (option_to_list o.last) (ran_lines o.prefinalises ran),
+      length-append (option_to_list o.last) (ran_lines o.calls_back ran),
     ))
 
 -- and where it tells none the outcome's are all

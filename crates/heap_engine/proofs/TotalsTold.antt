@@ -17,6 +17,7 @@ use Rattle.thread_queues.specs.Going.{TellSomeOf}
 use Rattle.thread_queues.specs.Queues.{posted}
 use Rattle.thread_queues.specs.Totals.{Totals}
 use Rattle.heap_cycle.specs.Owned.{OwnedView}
+use Rattle.heap_cycle.specs.Views.{Ran}
 use Rattle.heap_cycle.specs.Printed.{Printed, outcome_lines, ran_lines}
 use Rattle.heap_engine.specs.CarriedOut.{LeavesBoard, IsOfJoin}
 use Rattle.heap_engine.specs.Going.{ArePublished, TellOneOf, since_after, totals_of}
@@ -40,14 +41,14 @@ posted_after _ s since old new board was =
     ap (λ ts. ts ++ new.last ∷ []) board.1 ∙ ap (λ t. old.since ++ t ∷ []) board.0 ∙ posted_is since s old was
 
 -- a join's outcome has one line
-pub joined_alone : (o : Printed) (ran : List (ℕ × ℕ)) (join : IsOfJoin o) → outcome_lines o ran ≡ L.Joined join.count ∷ []
+pub joined_alone : (o : Printed) (ran : Ran) (join : IsOfJoin o) → outcome_lines o ran ≡ L.Joined join.count ∷ []
 joined_alone o ran join =
-    ap (λ (ns : List ℕ). finalise_lines ns ++ (option_to_list o.last ++ ran_lines o.prefinalises ran)) join.numbers
-    ∙ ap (λ (last : Option Line). option_to_list last ++ ran_lines o.prefinalises ran) join.last ∙ ap (λ b. L.Joined join.count ∷ ran_lines b ran) join.calm
+    ap (λ (ns : List ℕ). finalise_lines ns ++ (option_to_list o.last ++ ran_lines o.calls_back ran)) join.numbers
+    ∙ ap (λ (last : Option Line). option_to_list last ++ ran_lines o.calls_back ran) join.last ∙ ap (λ b. L.Joined join.count ∷ ran_lines b ran) join.calm
 
 -- ---- a join
 
-module _ (told : List Line) (o : Printed) (ran : List (ℕ × ℕ)) (join : IsOfJoin o) where
+module _ (told : List Line) (o : Printed) (ran : Ran) (join : IsOfJoin o) where
   -- its last line tells no totals
   none_last : TellNoTotals (outcome_lines o ran)
   none_last j a n u f there =

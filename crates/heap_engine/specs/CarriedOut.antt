@@ -23,7 +23,7 @@ use Rattle.heap_engine.specs.Ended.{last_line, IsEnded}
 -- an outcome that has begun tells nothing yet
 pub record TellsNothing (o : Printed) : Type 0 where
   pub numbers : o.numbers ≡ []
-  pub calm : o.prefinalises ≡ false
+  pub calm : o.calls_back ≡ false
 
 -- a command may be done: the parts are ready, the region belongs to them, no join is told, no pass is out unless a join is awaited, and
 -- the outcome tells nothing, with room for the nodes that a sweep can finalise
@@ -67,7 +67,7 @@ pub record IsOfJoin (o : Printed) : Type 0 where
   pub count : ℕ
   pub last : o.last ≡ Some (L.Joined count)
   pub numbers : o.numbers ≡ []
-  pub calm : o.prefinalises ≡ false
+  pub calm : o.calls_back ≡ false
 
 -- nothing was published yet, and where threads went none has been since
 abbrev pub LeavesBoard : Command → OwnedView → OwnedView → Type 0

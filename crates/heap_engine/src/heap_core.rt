@@ -152,7 +152,8 @@ impl Core {
         self.parts.objects.seat_has_all_words();
         self.parts.cycle.count_command();
         publish(rt, &mut self.parts);
-        u64::from(self.parts.region.told_count()) + self.outcome.count(self.parts.cycle.ran())
+        u64::from(self.parts.region.told_count())
+            + self.outcome.count(self.parts.cycle.registered())
     }
 
     pub fn line(&mut self, index: u64) -> Line
@@ -164,7 +165,8 @@ impl Core {
         if index < told {
             return self.parts.region.told_line(index as u32);
         }
-        self.outcome.line(index - told, self.parts.cycle.ran())
+        self.outcome
+            .line(index - told, self.parts.cycle.registered())
     }
 
     pub fn only_line(&self) -> Option<&Line>
@@ -181,7 +183,7 @@ impl Core {
         requires { 0 < length self.now.lines }
         ensures { slice_get self.now.lines (length self.now.lines - 1) ≡ Some result }
     {
-        self.outcome.last_line(self.parts.cycle.ran())
+        self.outcome.last_line(self.parts.cycle.registered())
     }
 
     pub fn finalised(&self) -> &[u32]

@@ -20,6 +20,8 @@ pub use Rattle.atomic_pause.specs.NodePlaces
 pub use Rattle.atomic_pause.specs.Nodes
 pub use Rattle.atomic_pause.specs.Pausing
 pub use Rattle.atomic_pause.specs.PlacesInWords
+pub use Rattle.atomic_pause.specs.WeakCalling
+pub use Rattle.atomic_pause.specs.WeakHolders
 pub use Rattle.atomic_pause.specs.WeakNodes
 pub use Rattle.marker_crew.specs.Crews as MarkerCrews
 pub use Rattle.marker_crew.specs.Note

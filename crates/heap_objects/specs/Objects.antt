@@ -6,6 +6,7 @@ use Rattle.gc_graph.specs.State.{Shape, Setup, ObjectType, Node, node_at, size_o
 use Rattle.gc_graph.specs.Fields.{word_of_field, with_value, target_of, new_node}
 use Rattle.page_words.specs.Seat.{SeatView, IsStill}
 use Rattle.page_space.specs.Space.{SpaceView, IsSpaceOf}
+use Rattle.atomic_pause.specs.WeakCalling.{MayCallBack}
 use Rattle.atomic_pause.specs.Nodes.{place_of, word_of, IsHeld}
 use Rattle.heap_objects.specs.declared.marking.Grey.{Grey}
 use Rattle.heap_objects.specs.Fields.{IsLiveReference}
@@ -34,10 +35,13 @@ refusals_told_of o = record { now = refused_of o; since = o.grey.since }
 abbrev pub setup_of_objects : ObjectsView → Setup
 setup_of_objects o = record { shape = o.shape; markers = o.grey.markers; types = o.types; callbacks = o.callbacks }
 
--- each type has at most 16 prefinalizers, and there are so many callbacks that each of these is one
+-- each type has at most 16 prefinalizers and 16 weak callbacks, there are so many callbacks that each of these is one, and all words of
+-- whoever has a weak one are shown
 pub record HaveCallbacks (callbacks : ℕ) (types : List ObjectType) : Type 0 where
   pub few : All (λ type. length type.prefinalizers ≤ 16) types
   pub known : All (λ type. All (λ number. number < callbacks) type.prefinalizers) types
+  pub few_weak : All (λ type. length type.weak_callbacks ≤ 16) types
+  pub weak : MayCallBack callbacks types
 
 -- the words hold the nodes, and the next number is the one that no node has; a header can name each type; nothing is in hand and
 -- nothing waits for its mark; the owner's state tells whether marking goes on, beside notes of its own; and what it tells as found

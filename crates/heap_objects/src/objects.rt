@@ -150,6 +150,14 @@ impl Objects {
         self.types.callbacks(t)
     }
 
+    /// The numbers of the callbacks that are a type's weak ones, in their order.
+    pub fn weak_callbacks(&self, t: u32) -> &[u32]
+        requires { t < length self.now.types }
+        ensures { result.now ≡ (type_at (setup_of_objects self.now) t).weak_callbacks }
+    {
+        self.types.weak_callbacks(t)
+    }
+
     /// How many objects are not finalised, how many words they have, and how many pages hold one
     /// of these.
     pub fn totals(&self) -> (u32, u32, u32)

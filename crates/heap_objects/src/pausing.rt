@@ -17,6 +17,7 @@ ghost use Rattle.page_space.specs.Space.{IsSeatOf};
 ghost use Rattle.atomic_pause.specs.Nodes.{AreOfValid};
 ghost use Rattle.atomic_pause.specs.PlacesInWords.{places_of_slots, BodiesAreJudged};
 ghost use Rattle.atomic_pause.specs.Pausing.{IsPaused, NamePlaces, hits_in};
+ghost use Rattle.atomic_pause.specs.WeakCalling.{AreOfHolders};
 ghost use Rattle.atomic_pause.specs.Pausing.{IsPausable, IsPausedRegion, shared_roots};
 ghost use Rattle.heap_objects.specs.Crews.{IsIdleOrLong, KeepsTaken};
 ghost use Rattle.heap_objects.specs.Marks.{ObjectsAreAtRest, HasMarking, NameRoots, TellsRoots};
@@ -28,7 +29,7 @@ use crate::marking::{clear, refused};
 use crate::objects::Objects;
 use crate::steps::step;
 use atomic_pause::{NodeLists, Parts, PauseResult, pause, visit_slots, visit_told};
-use callback_table::{CallbackTable, Registry};
+use callback_table::{CallbackTable, Registrations};
 use cross_thread_region::{Pass, Region};
 use ghost_values::GhostValue;
 use page_space::Space;
@@ -120,7 +121,8 @@ impl Objects {
     /// Finishes marking, with the pause: what the strong slots, the region's among them in the history
     /// that the pause found, and, unless it is precise, the words of the stack reach is kept, what
     /// couldn't be kept before is condemned unless the region's slots or the stack's words reach it,
-    /// what is weak and names a condemned object becomes null, and the prefinalizers of these run.
+    /// what is weak and names a condemned object becomes null, weak callbacks of kept objects run, and
+    /// the prefinalizers of the condemned.
     /// Markers that run are stopped and joined first. Then it waits for its turn at the region.
     #[inline(never)]
     pub fn pause<'a, R: Threads + Wait>(
@@ -132,7 +134,7 @@ impl Objects {
         pass: &mut Pass,
         stack: &[u64],
         precise: bool,
-        registry: &mut Registry,
+        registered: &mut Registrations,
         callbacks: &'a CallbackTable,
     ) -> Finished
         requires valid { AreOfValid (setup_of_objects self.old) self.old.nodes }
@@ -143,16 +145,19 @@ impl Objects {
             → holds self.old.seat.may p ≡ true }
         requires weak { (slots : List (Option ℕ)) × NamePlaces self.old.nodes slots weak.old }
         requires registered { All (IsRegistered self.old.nodes (length self.old.callbacks))
-            registry.old.entries }
+            registered.old.prefinalizers.entries }
+        requires weakly_registered { AreOfHolders self.old.types self.old.nodes
+            registered.old.weak_callbacks.entries }
         requires shared { IsPausable self.old.nodes region.now pass.old }
         ensures paused { (slots : List (Option ℕ)) (may : List Bool)
             → NamePlaces self.old.nodes slots strong.now → HasMarking may self.old
-            → IsPaused self.old.callbacks
+            → IsPaused self.old.callbacks self.old.types
             (slot_targets slots ++ shared_roots pass.new
             ++ hits_in precise self.old.nodes stack.now)
             (members may ++ shared_roots pass.new
             ++ hits_in precise self.old.nodes stack.now)
-            self.old.nodes self.new.nodes registry.old registry.new }
+            self.old.nodes self.new.nodes registered.old.prefinalizers
+            registered.new.prefinalizers registered.new.weak_callbacks }
         ensures sizes { (n : ℕ) → IsLive self.old.nodes n
             → size_of (node_at self.new.nodes n) ≡ size_of (node_at self.old.nodes n) }
         ensures weak { (slots : List (Option ℕ)) → NamePlaces self.old.nodes slots weak.old →
@@ -183,7 +188,8 @@ impl Objects {
                 nodes: &mut self.nodes,
                 marking: &mut self.grey.marking,
                 weak,
-                registry,
+                registry: &mut registered.prefinalizers,
+                weak_calls: &mut registered.weak_callbacks,
                 pass,
                 space: &self.space,
                 types: &self.types,

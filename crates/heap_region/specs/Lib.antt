@@ -39,6 +39,8 @@ pub use Rattle.heap_objects.specs.Seat
 pub use Rattle.heap_objects.specs.Space
 pub use Rattle.heap_objects.specs.Sweeping
 pub use Rattle.heap_objects.specs.SweptNodes
+pub use Rattle.heap_objects.specs.WeakCalling
+pub use Rattle.heap_objects.specs.WeakHolders
 pub use Rattle.heap_objects.specs.WeakNodes
 pub use Rattle.heap_objects.specs.declared.field.Field
 pub use Rattle.heap_objects.specs.declared.field.Part

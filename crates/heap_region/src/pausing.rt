@@ -14,6 +14,7 @@ ghost use Rattle.heap_objects.specs.Marks.{ObjectsAreAtRest, HasMarking};
 ghost use Rattle.heap_objects.specs.Nodes.{AreOfValid};
 ghost use Rattle.heap_objects.specs.Objects.{setup_of_objects, refused_of};
 ghost use Rattle.heap_objects.specs.Pausing.{IsPaused, NamePlaces, hits_in};
+ghost use Rattle.heap_objects.specs.WeakCalling.{AreOfHolders};
 ghost use Rattle.heap_objects.specs.PlacesInWords.{places_of_slots, BodiesAreJudged};
 ghost use Rattle.heap_objects.specs.Refused.{IsToldTruly};
 ghost use Rattle.heap_region.specs.Calls.{HasPauseEntry};
@@ -21,7 +22,7 @@ ghost use Rattle.heap_region.specs.Handled.{IsHandled};
 ghost use Rattle.heap_region.specs.Owned.{found_of};
 
 use crate::owned::OwnedRegion;
-use callback_table::{CallbackTable, Registry};
+use callback_table::{CallbackTable, Registrations};
 use heap_objects::{Finished, Objects};
 use persistent_slots::Slots;
 use std::sync::Wait;
@@ -38,7 +39,7 @@ impl OwnedRegion {
         weak: &mut Slots,
         stack: &[u64],
         precise: bool,
-        registry: &mut Registry,
+        registered: &mut Registrations,
         callbacks: &'a CallbackTable,
     ) -> Finished
         requires opened { self.old.closed ≡ false }
@@ -53,16 +54,19 @@ impl OwnedRegion {
             → holds objects.old.seat.may p ≡ true }
         requires weak { (slots : List (Option ℕ)) × NamePlaces objects.old.nodes slots weak.old }
         requires registered { All (IsRegistered objects.old.nodes (length objects.old.callbacks))
-            registry.old.entries }
+            registered.old.prefinalizers.entries }
+        requires weakly_registered { AreOfHolders objects.old.types objects.old.nodes
+            registered.old.weak_callbacks.entries }
         ensures entry { HasPauseEntry objects.new.nodes self.old self.new }
         ensures paused { (slots : List (Option ℕ)) (may : List Bool)
             → NamePlaces objects.old.nodes slots strong.now → HasMarking may objects.old
-            → IsPaused objects.old.callbacks
+            → IsPaused objects.old.callbacks objects.old.types
             (slot_targets slots ++ strong_region_targets (slots_of (found_of self.new))
             ++ hits_in precise objects.old.nodes stack.now)
             (members may ++ strong_region_targets (slots_of (found_of self.new))
             ++ hits_in precise objects.old.nodes stack.now)
-            objects.old.nodes objects.new.nodes registry.old registry.new }
+            objects.old.nodes objects.new.nodes registered.old.prefinalizers
+            registered.new.prefinalizers registered.new.weak_callbacks }
         ensures sizes { (n : ℕ) → IsLive objects.old.nodes n
             → size_of (node_at objects.new.nodes n) ≡ size_of (node_at objects.old.nodes n) }
         ensures weak { (slots : List (Option ℕ)) → NamePlaces objects.old.nodes slots weak.old →
@@ -89,7 +93,7 @@ impl OwnedRegion {
             &mut self.pass,
             stack,
             precise,
-            registry,
+            registered,
             callbacks,
         );
         self.pass.is_legal();

@@ -39,4 +39,6 @@ pub use Rattle.heap_region.specs.Sweeping
 pub use Rattle.heap_region.specs.SweptNodes
 pub use Rattle.heap_region.specs.Took
 pub use Rattle.heap_region.specs.Wanted
+pub use Rattle.heap_region.specs.WeakCalling
+pub use Rattle.heap_region.specs.WeakHolders
 pub use Rattle.heap_region.specs.WeakNodes

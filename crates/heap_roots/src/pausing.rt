@@ -17,6 +17,7 @@ ghost use Rattle.heap_region.specs.Seat.{IsQuiet};
 ghost use Rattle.heap_region.specs.Nodes.{AreOfValid};
 ghost use Rattle.heap_region.specs.PlacesInWords.{places_of_slots, BodiesAreJudged};
 ghost use Rattle.heap_region.specs.Pausing.{IsPaused, hits_in};
+ghost use Rattle.heap_region.specs.WeakCalling.{AreOfHolders};
 ghost use Rattle.heap_region.specs.Marks.{ObjectsAreAtRest, HasMarking};
 ghost use Rattle.heap_region.specs.Objects.{setup_of_objects, refused_of};
 ghost use Rattle.heap_region.specs.Refused.{IsToldTruly};
@@ -28,7 +29,7 @@ ghost use Rattle.heap_roots.specs.Stack as spec;
 
 use crate::handles::Handles;
 use crate::slot_lists;
-use callback_table::{CallbackTable, Registry};
+use callback_table::{CallbackTable, Registrations};
 use gc_graph::Want;
 use heap_region::{Finished, Objects, OwnedRegion};
 use std::sync::Wait;
@@ -68,14 +69,14 @@ impl Handles {
     /// Finishes marking, with the pause: what the strong slots, the region's among them, and, unless it
     /// is precise, the words of the stack reach is kept, what couldn't be kept before is condemned
     /// unless the region's slots or the stack's words reach it, what is weak and names a condemned
-    /// object becomes null, and the prefinalizers of these run. Markers that run are stopped and joined
-    /// first.
+    /// object becomes null, weak callbacks of kept objects run, and the prefinalizers of the
+    /// condemned. Markers that run are stopped and joined first.
     pub fn pause<R: Threads + Wait>(
         &mut self,
         rt: &R,
         region: &mut OwnedRegion,
         objects: &mut Objects,
-        registry: &mut Registry,
+        registered: &mut Registrations,
         callbacks: &CallbackTable,
         want: Want,
     ) -> Finished
@@ -89,18 +90,21 @@ impl Handles {
             → holds objects.old.seat.may p ≡ true }
         requires weak_live { AreLive objects.old.nodes (slot_targets self.old.weak) }
         requires registered { All (IsRegistered objects.old.nodes (length objects.old.callbacks))
-            registry.old.entries }
+            registered.old.prefinalizers.entries }
+        requires weakly_registered { AreOfHolders objects.old.types objects.old.nodes
+            registered.old.weak_callbacks.entries }
         requires opened { region.old.closed ≡ false }
         requires quiet { region.old.told ≡ [] }
         requires shared { IsHandled objects.old.nodes region.old.taken }
         requires started { is_started region.old.taken ≡ true }
         ensures paused { (may : List Bool) → HasMarking may objects.old
-            → IsPaused objects.old.callbacks
+            → IsPaused objects.old.callbacks objects.old.types
             (slot_targets self.old.slots ++ strong_region_targets (slots_of (found_of region.new))
             ++ hits_in (spec.is_precise want) objects.old.nodes self.old.stack.addresses)
             (members may ++ strong_region_targets (slots_of (found_of region.new))
             ++ hits_in (spec.is_precise want) objects.old.nodes self.old.stack.addresses)
-            objects.old.nodes objects.new.nodes registry.old registry.new }
+            objects.old.nodes objects.new.nodes registered.old.prefinalizers
+            registered.new.prefinalizers registered.new.weak_callbacks }
         ensures sizes { (n : ℕ) → IsLive objects.old.nodes n
             → size_of (node_at objects.new.nodes n) ≡ size_of (node_at objects.old.nodes n) }
         ensures handles { self.new ≡ record self.old {
@@ -127,7 +131,7 @@ impl Handles {
             &mut self.weak,
             self.stack.addresses(),
             is_precise(want),
-            registry,
+            registered,
             callbacks,
         );
         self.weak_nodes = slot_lists::cleared(&self.weak_nodes, objects);

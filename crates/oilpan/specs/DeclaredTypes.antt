@@ -52,9 +52,9 @@ with_prefinalizer number d = record d { object = add_prefinalizer number d.objec
 abbrev pub kinds_of : List DeclaredField → List Kind
 kinds_of fields = map (λ f. f.kind) fields
 
--- the type of an object: the kinds of its fields, and its prefinalizers, in their order
+-- the type of an object: the kinds of its fields, and its prefinalizers, in their order; it has no weak callbacks
 abbrev pub type_of : DeclaredObject → ObjectType
-type_of o = record { kinds = kinds_of o.fields; prefinalizers = o.prefinalizers }
+type_of o = record { kinds = kinds_of o.fields; prefinalizers = o.prefinalizers; weak_callbacks = [] }
 
 -- the types of objects, by number
 abbrev pub types_of : List DeclaredObject → List ObjectType

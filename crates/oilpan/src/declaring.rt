@@ -64,7 +64,8 @@ impl Declared {
         let fields = fields.finish()?;
         let callbacks = prefinalizers.finish()?;
         let kinds = kinds_of(alloc, fields.as_slice())?;
-        Ok((TypeDecl::new(kinds, callbacks), Named::new(name, fields)))
+        let decl = TypeDecl::new(kinds, callbacks, Vec::new(alloc));
+        Ok((decl, Named::new(name, fields)))
     }
 }
 

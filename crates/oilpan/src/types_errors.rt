@@ -1,7 +1,8 @@
 // Why declared objects make no types.
 
-ghost use Rattle.std.specs.Prelude.{◌≡◌};
-ghost use Rattle.oilpan.specs.FaultErrors.{error_of};
+ghost use Rattle.std.specs.Prelude.{◌≡◌, ℕ};
+ghost use Rattle.type_table.specs.declared.faults.TypeFault.TheVariants.{TooManyWords};
+ghost use Rattle.oilpan.specs.FaultErrors.{IsErrorOf};
 
 use thiserror::Error;
 use type_table::TypeFault;
@@ -24,12 +25,14 @@ pub enum TypesError {
 
 /// The types' own limits.
 pub(crate) fn error_of(fault: TypeFault) -> TypesError
-    ensures { result ≡ error_of fault }
+    requires { (ty : ℕ) → ¬ (fault ≡ TooManyWords ty) }
+    ensures { IsErrorOf fault result }
 {
     match fault {
         TypeFault::TooManyTypes { count } => TypesError::TooManyTypes { count },
         TypeFault::TooManyFields { ty } => TypesError::TooManyFields { ty },
         TypeFault::NoCallback { ty, callback } => TypesError::NoCallback { ty, callback },
+        TypeFault::TooManyWords { .. } => unreachable!(),
         TypeFault::NoMemory => TypesError::NoMemory,
     }
 }

@@ -143,5 +143,6 @@ fn table_of(alloc: Global, types: Vec<TypeDecl>, callbacks: u32) -> Result<TypeT
         Err(TypeFault::TooManyTypes { .. }) => unreachable!(),
         Err(TypeFault::TooManyFields { .. }) => unreachable!(),
         Err(TypeFault::NoCallback { .. }) => unreachable!(),
+        Err(TypeFault::TooManyWords { .. }) => unreachable!(),
     }
 }

@@ -11,6 +11,7 @@ use Rattle.heap_cycle.specs.Cycles.{pause_line}
 use Rattle.heap_cycle.specs.Parts.{setup_of, state_of, counted}
 use Rattle.heap_cycle.specs.Printed.{ran_lines}
 use Rattle.heap_cycle.specs.Ties.{manned_calm, tied_counted}
+use Rattle.heap_cycle.specs.Views.{Ran, ran_of}
 use Rattle.heap_cycle.specs.Walks.{IsWalkTold, refused_before}
 use Rattle.heap_cycle.proofs.CollectSteps.{before_calm, pause_told, step_collected}
 use Rattle.heap_cycle.proofs.Pieces.{piece_both, takes_both}
@@ -21,7 +22,7 @@ returns-clause-step g c =
     let s : Parts = c.args.parts.now in
     let mid : Parts = c.begin.new.parts in
     let new : Parts = c.pause-result.new.parts in
-    let ran : List (ℕ × ℕ) = new.cycle.ran in
+    let ran : Ran = new.cycle.ran in
     let numbers : List ℕ = c.begin.new.finalised.items in
     let begun = c.in-Ok.ensures.begun in
     let paused = c.pause-result.ensures.paused 0 (λ none. c.in-Ok.ensures.begun.home) in
@@ -34,8 +35,8 @@ returns-clause-step g c =
     begun.ended begun.start
     (subst (λ (st : Setup). IsPause st 0 c.args.want (state_of mid) second told (state_of new)) begun.setup paused.pause)
     (piece_both s.region mid.region new.region begun.grown paused.grown)
-    (pause_told c.prefinalise.new.self _ _ numbers numbers c.ran.result.now ran c.pause-result.result c.line_of.result refl
-    c.prefinalise.ensures c.ran.ensures c.line_of.ensures)
+    (pause_told c.call_back.new.self _ _ numbers numbers (ran_of c.registered.result.now) ran c.pause-result.result c.line_of.result refl
+    c.call_back.ensures c.registered.ensures c.line_of.ensures)
 
 pub returns-clause-frame : goal.returns-clause-frame
 returns-clause-frame g c =

@@ -10,6 +10,7 @@ use Rattle.heap_cycle.specs.KeptRoots.{marking_of}
 use Rattle.heap_cycle.specs.Parts.{setup_of, state_of, counted, IsReady}
 use Rattle.heap_cycle.specs.Printed.{ran_lines}
 use Rattle.heap_cycle.specs.Ties.{manned_calm, none_runs, tied_counted}
+use Rattle.heap_cycle.specs.Views.{Ran, ran_of}
 use Rattle.heap_cycle.specs.Walks.{IsWalkTold, refused_before}
 use Rattle.heap_cycle.proofs.CollectSteps.{pause_told, phase_marks, step_finished}
 use Rattle.heap_cycle.proofs.collections.finish.Goals as goal
@@ -22,13 +23,13 @@ pub returns-clause-step : goal.returns-clause-step
 returns-clause-step g c =
     let s : Parts = c.args.parts.now in
     let new : Parts = c.pause-result.new.parts in
-    let ran : List (ℕ × ℕ) = new.cycle.ran in
+    let ran : Ran = new.cycle.ran in
     let marks : is_marking s.cycle.phase ≡ true = search rules in
     let paused = c.pause-result.ensures.paused (setup_of s).markers (no_crew s c.requires.ready marks) in
     step_finished (setup_of s) c.args.want (state_of s) (state_of new) _ _ (pause_line c.pause-result.result ∷ ran_lines true ran) marks
     (ap (λ (x : StackView). is_stack_refused c.args.want x.words) (sym c.stack.ensures) ∙ sym c.refuses.ensures ∙ c.if-refuses.false) paused.pause
-    (pause_told c.prefinalise.new.self _ _ c.args.outcome.now.numbers [] c.ran.result.now ran c.pause-result.result c.line_of.result c.requires.numbers c.prefinalise.ensures
-    c.ran.ensures c.line_of.ensures)
+    (pause_told c.call_back.new.self _ _ c.args.outcome.now.numbers [] (ran_of c.registered.result.now) ran c.pause-result.result c.line_of.result c.requires.numbers c.call_back.ensures
+    c.registered.ensures c.line_of.ensures)
 
 pub returns-clause-frame : goal.returns-clause-frame
 returns-clause-frame g c =

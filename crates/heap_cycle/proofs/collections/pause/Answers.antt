@@ -7,10 +7,11 @@ use Rattle.cross_thread_region.specs.Histories.{slots_of}
 use Rattle.heap_roots.specs.Owned.{found_of}
 use Rattle.heap_roots.specs.Pausing.{IsPaused, hits_in}
 use Rattle.heap_roots.specs.Stack.{is_precise}
+use Rattle.heap_roots.specs.WeakCalling.{AreOfHolders}
 use Rattle.heap_cycle.specs.declared.parts.Parts.{Parts}
 use Rattle.heap_cycle.specs.Changes.{paused_from, with_taken}
 use Rattle.heap_cycle.specs.KeptRoots.{marking_of, slots_kept}
-use Rattle.heap_cycle.specs.Views.{CycleView, Moment}
+use Rattle.heap_cycle.specs.Views.{CycleView, Moment, ran_of}
 use Rattle.heap_cycle.proofs.PauseStates.{Pauses, registry_of}
 use Rattle.heap_cycle.proofs.PauseSteps.{has_paused}
 use Rattle.heap_cycle.proofs.RegisteredNodes.{registered_placed}
@@ -24,6 +25,11 @@ pause-result-requires-clause-registered g c =
     subst (λ (k : CycleView). All (IsRegistered c.args.parts.now.objects.nodes (length c.args.parts.now.objects.callbacks)) k.registered) (sym c.cycle.view_is)
     (registered_placed c.args.parts.now c.requires.ready)
 
+pub pause-result-requires-clause-weakly_registered : goal.pause-result-requires-clause-weakly_registered
+pause-result-requires-clause-weakly_registered g c =
+    subst (λ (k : CycleView). AreOfHolders c.args.parts.now.objects.types c.args.parts.now.objects.nodes k.weakly) (sym c.cycle.view_is)
+    c.requires.ready.tied.weakly
+
 pub returns : goal.returns
 returns g c = record {
   paused = λ markers none.
@@ -31,8 +37,9 @@ returns g c = record {
       let after : CycleView = record {
         phase = Sweeping;
         sweep = c.begin.new.self;
-        registered = c.pause-result.new.registry.entries;
-        ran = c.pause-result.new.registry.ran;
+        registered = c.pause-result.new.registered.prefinalizers.entries;
+        weakly = c.pause-result.new.registered.weak_callbacks.entries;
+        ran = ran_of c.pause-result.new.registered;
         rest = c.paused.result.value;
       } in
       let least : _ = slot_targets s.handles.slots ++ strong_region_targets (slots_of (found_of c.pause-result.new.region))
@@ -40,7 +47,8 @@ returns g c = record {
       let most : _ = members s.cycle.rest.may ++ strong_region_targets (slots_of (found_of c.pause-result.new.region))
       ++ hits_in (is_precise c.args.want) s.objects.nodes s.handles.stack.addresses in
       let keeps : RegistryView → Type 0 = λ registry.
-      IsPaused s.objects.callbacks least most s.objects.nodes c.pause-result.new.objects.nodes registry c.pause-result.new.registry in
+      IsPaused s.objects.callbacks s.objects.types least most s.objects.nodes c.pause-result.new.objects.nodes registry
+      c.pause-result.new.registered.prefinalizers c.pause-result.new.registered.weak_callbacks in
       let is : Pauses markers c.args.want s c.pause-result.new.objects c.pause-result.new.self after c.pause-result.new.region c.pause-result.result = record {
         ready = c.requires.ready;
         marking = c.requires.marking;

@@ -11,7 +11,7 @@ use Rattle.heap_cycle.proofs.placement.place_for.Goals as goal
 pub returns-in-Some-clause-placed : goal.returns-in-Some-clause-placed
 returns-in-Some-clause-placed c =
     rw c.find.ensures.same
-    (placed_at_once (unregistered c.args.count c.args.parts.now) c.args.size c.in-Some.place c.args.outcome.now.numbers c.requires.ready c.requires.empty
+    (placed_at_once (unregistered c.args.last c.args.parts.now) c.args.size c.in-Some.place c.args.outcome.now.numbers c.requires.ready c.requires.empty
     (rw c.swept_pages-swept.ensures at c.in-Some.ensures.found))
 
 pub returns-in-Some-clause-swept : goal.returns-in-Some-clause-swept
@@ -19,6 +19,12 @@ returns-in-Some-clause-swept c =
     let s : Parts = c.args.parts.now in
     rw c.find.ensures.same
     (between_low s.objects.shape s.objects c.args.size 0 s.cycle.sweep.cursor c.in-Some.place (rw c.swept_pages-swept.ensures at c.in-Some.ensures.found).0 c.requires.some)
+
+pub returns-in-Some-clause-free : goal.returns-in-Some-clause-free
+returns-in-Some-clause-free c = rw c.find.ensures.same c.in-Some.ensures.place
+
+pub returns-in-Some-sweep_until_found-clause-manned : goal.returns-in-Some-sweep_until_found-clause-manned
+returns-in-Some-sweep_until_found-clause-manned c = rw c.find.ensures.same at c.sweep_until_found.ensures.manned
 
 -- nothing was told before
 none_told : (c : goal.After-sweep_until_found-arg-2-1) → c.outcome.inside.finalised.items ≡ []
@@ -40,5 +46,5 @@ sweep_until_found-requires-clause-nowhere c = rw c.find.ensures.same (rw c.swept
 pub returns-clause-placed : goal.returns-clause-placed
 returns-clause-placed c =
     rw c.find_empty.ensures.same
-    (placed_last (unregistered c.args.count c.args.parts.now) (unregistered c.args.count c.sweep_until_found.new.parts) c.args.size c.sweep_until_found.new.finalised.items c.find_empty.result
+    (placed_last (unregistered c.args.last c.args.parts.now) (unregistered c.args.last c.sweep_until_found.new.parts) c.args.size c.sweep_until_found.new.finalised.items c.find_empty.result
     (rw c.find.ensures.same at c.sweep_until_found.ensures.setup) (rw c.find.ensures.same at c.in_default-sweep_until_found.ensures.searched) c.find_empty.ensures.found c.find_empty.ensures.none)

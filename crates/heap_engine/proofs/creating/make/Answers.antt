@@ -15,7 +15,7 @@ use Rattle.heap_cycle.specs.Printed.{Printed, ran_lines}
 use Rattle.heap_cycle.specs.Views.{CycleView}
 use Rattle.heap_engine.proofs.NewSteps.{made_cycle, step_made, tied_made}
 use Rattle.heap_engine.proofs.Tellings.{tells_kept}
-use Rattle.heap_cycle.specs.Registrations.{left_out_before, joined_after}
+use Rattle.heap_cycle.specs.Registrations.{last_there, left_out_before, joined_after}
 use Rattle.heap_engine.proofs.creating.make.Goals as goal
 
 -- a new object leaves the markers that run
@@ -26,7 +26,7 @@ made_manned mid new handles t place grey manned =
 
 -- the parts once the place is found, but for the registrations of the new object
 abbrev found_parts : goal.After-put → Parts
-found_parts c = unregistered c.in-Ok.count c.place_for.new.parts
+found_parts c = unregistered c.in-Ok.last c.place_for.new.parts
 
 setup_found : (c : goal.After-put) → setup_of c.place_for.new.parts ≡ setup_of c.args.parts.now
 setup_found c = c.place_for.ensures.setup ∙ ap setup_of c.in-Ok.ensures.registered
@@ -34,14 +34,14 @@ setup_found c = c.place_for.ensures.setup ∙ ap setup_of c.in-Ok.ensures.regist
 made_found : (c : goal.After-put) → length c.place_for.new.parts.objects.nodes ≡ length c.args.parts.now.objects.nodes
 made_found c = c.place_for.ensures.made ∙ ap (λ (x : Parts). length x.objects.nodes) c.in-Ok.ensures.registered
 
--- the new object's prefinalizers are registered with its place, and it may be kept where marking goes on
+-- the new object's callbacks are registered with its place, and it may be kept where marking goes on
 registers : (c : goal.After-put) → c.keep_new.new.self ≡ made_cycle (found_parts c) c.args.t c.in-Some.place
 registers c =
     c.keep_new.ensures
     ∙ ap (λ (k : CycleView). record k { rest = record k.rest { may = may_with_new k.phase k.rest.may } })
     (c.place_last.ensures
-    ∙ joined_after c.args.parts.now c.register.new.parts c.place_for.new.parts c.args.t c.in-Some.place c.in-Ok.count c.in-Ok.ensures.registered c.in-Ok.ensures.count
-    c.place_for.ensures.registered (setup_found c) (made_found c))
+    ∙ joined_after c.args.parts.now c.register.new.parts c.place_for.new.parts c.args.t c.in-Some.place c.in-Ok.last c.in-Ok.ensures.registered c.in-Ok.ensures.last
+    c.place_for.ensures.registered c.place_for.ensures.weakly (setup_found c) (made_found c))
 
 -- the place was found from the state before, in which nothing was registered for it
 placed : (c : goal.After-put) → IsPlacement c.args.parts.now.objects.shape (state_of c.args.parts.now) (size_of_type (setup_of c.args.parts.now) c.args.t c.args.extra)
@@ -54,7 +54,17 @@ placed c =
     subst (λ n. IsPlacement s.objects.shape (state_of s) n c.place_for.new.outcome.numbers (state_of (found_parts c)) (Some c.in-Some.place)) size
     (subst (λ (sh : Shape). IsPlacement sh (state_of s) c.size_of-size.result c.place_for.new.outcome.numbers (state_of (found_parts c)) (Some c.in-Some.place)) shape
     (subst (λ (x : Parts). IsPlacement c.register.new.parts.objects.shape (state_of x) c.size_of-size.result c.place_for.new.outcome.numbers (state_of (found_parts c)) (Some c.in-Some.place))
-    (left_out_before s c.register.new.parts c.args.t c.in-Ok.count c.in-Ok.ensures.registered c.in-Ok.ensures.count) c.in-Some.ensures.placed))
+    (left_out_before s c.register.new.parts c.args.t c.in-Ok.last c.in-Ok.ensures.registered c.in-Ok.ensures.last) c.in-Some.ensures.placed))
+
+pub unregister_last-requires-clause-weak : goal.unregister_last-requires-clause-weak
+unregister_last-requires-clause-weak c =
+    last_there c.args.parts.now c.register.new.parts c.place_for.new.parts c.args.t c.in-Ok.last c.in-Ok.ensures.registered c.in-Ok.ensures.last
+    c.place_for.ensures.weakly
+
+pub place_last-requires-clause-weak : goal.place_last-requires-clause-weak
+place_last-requires-clause-weak c =
+    last_there c.args.parts.now c.register.new.parts c.place_for.new.parts c.args.t c.in-Ok.last c.in-Ok.ensures.registered c.in-Ok.ensures.last
+    c.place_for.ensures.weakly
 
 pub make-requires-clause-size : goal.make-requires-clause-size
 make-requires-clause-size c =
@@ -62,7 +72,7 @@ make-requires-clause-size c =
 
 pub returns-clause-step : goal.returns-clause-step
 returns-clause-step c =
-    let calm : c.place_for.new.outcome.prefinalises ≡ false = ap (λ (o : Printed). o.prefinalises) c.place_for.ensures.outcome ∙ c.requires.calm in
+    let calm : c.place_for.new.outcome.calls_back ≡ false = ap (λ (o : Printed). o.calls_back) c.place_for.ensures.outcome ∙ c.requires.calm in
     step_made c.args.parts.now (found_parts c) c.make.new.self c.put.new.self c.keep_new.new.self c.args.p c.args.t c.args.extra c.in-Some.place
     c.made-number.result c.place_for.new.outcome.numbers _ (setup_found c) (placed c) (c.made-number.ensures ∙ sym (made_found c))
     c.make.ensures.nodes (registers c) c.put.ensures
@@ -78,7 +88,7 @@ returns-clause-frame c =
       ordinal = ap (λ (k : CycleView). k.rest.ordinal + 1) (registers c) ∙ ap (λ n. n + 1) ordinal;
       tied = tied_made mid c.make.new.self c.put.new.self c.keep_new.new.self c.args.p c.args.t c.in-Some.place c.made-number.result
           (new_node (setup_of mid) c.args.t c.args.extra c.in-Some.place) c.place_for.ensures.ready
-          (subst (λ (st : Setup). c.args.t < length st.types) (sym (setup_found c)) c.requires.ty)
+          (subst (λ (st : Setup). c.args.t < length st.types) (sym (setup_found c)) c.requires.ty) refl refl
           (c.make.ensures.marks mid.cycle.phase (cursor_at mid.objects.shape mid.cycle.sweep) mid.cycle.rest.may c.in-Some.ensures.swept c.place_for.ensures.ready.tied.marks)
           c.make.ensures.grey c.make.ensures.setup (c.made-number.ensures ∙ sym (made_found c)) refl c.make.ensures.nodes (registers c) c.put.ensures;
       manned = λ manned. subst IsManned (sym (ap (λ (k : CycleView). counted (record mid { objects = c.make.new.self; handles = c.put.new.self; cycle = k })) (registers c))) (made_manned mid c.make.new.self c.put.new.self c.args.t c.in-Some.place c.make.ensures.grey (c.place_for.ensures.manned (subst IsManned (sym c.in-Ok.ensures.registered) manned)));

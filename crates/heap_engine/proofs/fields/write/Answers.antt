@@ -1,5 +1,6 @@
 use Rattle.std.proofs.Common.{◌≡◌, List, None, get_or, length, refl, sym, ap, ◌∙◌, subst}
 use Rattle.gc_graph.specs.State.{Node}
+use Rattle.heap_cycle.specs.WeakHolders.{StayHolders}
 use Rattle.heap_cycle.specs.Sweeping.{cursor_at}
 use Rattle.heap_cycle.specs.declared.parts.Parts.{Parts}
 use Rattle.heap_cycle.specs.Barrier.{MayKeep}
@@ -9,7 +10,7 @@ use Rattle.heap_cycle.specs.Objects.{written_in, ObjectsView, StaysAt}
 use Rattle.heap_engine.proofs.FieldAnswers.{Found, found, field_kind, step_write}
 use Rattle.heap_engine.proofs.KeptSlots.{slot_kept, write_kept}
 use Rattle.heap_engine.proofs.Tellings.{tells_on}
-use Rattle.heap_cycle.specs.FieldNodes.{stays-written, length-written}
+use Rattle.heap_cycle.specs.FieldNodes.{stays-written, holders-written}
 use Rattle.heap_cycle.specs.FieldReads.{takes_suited}
 use Rattle.heap_cycle.specs.Ties.{manned_running, valid_nodes, tied_fields}
 use Rattle.heap_engine.proofs.fields.write.Goals as goal
@@ -65,7 +66,7 @@ returns-in-Ok-clause-frame c =
           (rw c.in-Ok.ensures.same at c.store.ensures.setup)
           (c.store.ensures.marks s.cycle.phase (cursor_at s.objects.shape s.cycle.sweep) s.cycle.rest.may (rw c.in-Ok.ensures.same c.requires.ready.tied.marks))
           (rw c.in-Ok.ensures.same at c.store.ensures.traced)
-          (ap length nodes ∙ length-written old (get_or s.handles.slots c.args.p None) c.args.f c.args.content.now.value.value);
+          (subst (StayHolders old) (sym nodes) (holders-written old (get_or s.handles.slots c.args.p None) c.args.f c.args.content.now.value.value));
       manned = manned_running s (record s { objects = new }) refl (rw c.in-Ok.ensures.same at c.store.ensures.running) (rw c.in-Ok.ensures.same at c.store.ensures.setup);
       refused = tells_on s new c.requires.ready.tied (rw c.in-Ok.ensures.same at c.store.ensures.refused);
     })

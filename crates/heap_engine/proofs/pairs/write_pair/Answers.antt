@@ -2,6 +2,7 @@ use Rattle.std.proofs.Common.{◌≡◌, ℕ, List, Option, None, get_or, length
 use Rattle.gc_graph.specs.declared.kind.Value.{Value}
 use Rattle.gc_graph.specs.State.{Node}
 use Rattle.gc_graph.specs.Fields.{is_pair}
+use Rattle.heap_cycle.specs.WeakHolders.{StayHolders}
 use Rattle.heap_cycle.specs.Sweeping.{cursor_at}
 use Rattle.heap_cycle.specs.declared.parts.Parts.{Parts}
 use Rattle.heap_cycle.specs.Barrier.{MayKeep}
@@ -11,7 +12,7 @@ use Rattle.heap_engine.proofs.FieldAnswers.{Found, found, field_kind}
 use Rattle.heap_engine.proofs.PairAnswers.{step_pair}
 use Rattle.heap_engine.proofs.KeptSlots.{slot_kept}
 use Rattle.heap_engine.proofs.Tellings.{tells_on}
-use Rattle.heap_cycle.specs.FieldNodes.{stays-paired, length-paired}
+use Rattle.heap_cycle.specs.FieldNodes.{stays-paired, holders-paired}
 use Rattle.heap_cycle.specs.Ties.{manned_running, valid_nodes, tied_fields}
 use Rattle.heap_engine.proofs.pairs.write_pair.Goals as goal
 
@@ -75,7 +76,7 @@ returns-in-Ok-clause-frame c =
           (rw c.in-Ok.ensures.same at c.store_pair.ensures.setup)
           (c.store_pair.ensures.marks s.cycle.phase (cursor_at s.objects.shape s.cycle.sweep) s.cycle.rest.may (rw c.in-Ok.ensures.same c.requires.ready.tied.marks))
           (rw c.in-Ok.ensures.same at c.store_pair.ensures.traced)
-          (ap length nodes ∙ length-paired old slot c.args.f key value);
+          (subst (StayHolders old) (sym nodes) (holders-paired old slot c.args.f key value));
       manned = manned_running s (record s { objects = new }) refl (rw c.in-Ok.ensures.same at c.store_pair.ensures.running) (rw c.in-Ok.ensures.same at c.store_pair.ensures.setup);
       refused = tells_on s new c.requires.ready.tied (rw c.in-Ok.ensures.same at c.store_pair.ensures.refused);
     })

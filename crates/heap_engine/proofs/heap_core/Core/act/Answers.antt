@@ -3,6 +3,7 @@ use Rattle.std.proofs.Common.{◌≡◌, ◌+◌, ℕ, refl, true, false, List, 
 use Rattle.std.proofs.lemmas.Bool.{true≢false}
 use mathlib.Core.Logic.{◌⊎◌}
 use Rattle.gc_graph.specs.Lawful.{IsAllowed}
+use Rattle.heap_cycle.specs.Views.{Ran, ran_of}
 use Rattle.heap_cycle.specs.declared.parts.Parts.{Parts}
 use Rattle.heap_cycle.specs.Owned.{IsToldLine, OwnedView}
 use Rattle.gc_graph.specs.declared.line.Line.{Line}
@@ -53,7 +54,7 @@ overflow_add-result d c =
             c.told_count.ensures.count,
             c.told_count.ensures.small,
             c.count.ensures.count,
-            ap length (joined_alone c.run.new.outcome c.ran.result.now join),
+            ap length (joined_alone c.run.new.outcome (ran_of c.registered.result.now) join),
           )
     ]
 
@@ -94,7 +95,7 @@ invariant_of-self d c =
 counted_lines : (d : given.Over) (c : After-count d)
     → c.from.result + c.count.result ≡ length c.publish.new.parts.region.told + length (outcome_lines c.run.new.outcome c.publish.new.parts.cycle.ran)
 counted_lines d c =
-    omega (arith, c.from.ensures, c.told_count.ensures.count, c.count.ensures.count, ap (λ (r : List (ℕ × ℕ)). length (outcome_lines c.run.new.outcome r)) c.ran.ensures)
+    omega (arith, c.from.ensures, c.told_count.ensures.count, c.count.ensures.count, ap (λ (r : Ran). length (outcome_lines c.run.new.outcome r)) c.registered.ensures)
 
 pub returns : goal.returns
 returns d c =

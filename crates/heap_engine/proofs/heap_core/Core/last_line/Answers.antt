@@ -2,6 +2,7 @@ use Rattle.std.proofs.Common.{◌≡◌, ◌<◌, ℕ, List, None, length, ap, �
 use Rattle.gc_graph.specs.declared.line.Line.{Line}
 use Rattle.heap_cycle.specs.LastLine.{last_behind}
 use Rattle.heap_cycle.specs.Printed.{Printed, outcome_lines}
+use Rattle.heap_cycle.specs.Views.{Ran}
 use Rattle.heap_engine.specs.declared.heap_core.Core.TheInside.{Inside}
 use Rattle.heap_engine.specs.Sound.{IsSound, view_of}
 use Rattle.heap_engine.proofs.OutcomeLines.{some_told}
@@ -17,8 +18,8 @@ last_line-requires-clause-ended c = was_ended c.self.inside c.self.invariant (rw
 pub returns : goal.returns
 returns c =
     let o : Printed = c.self.inside.outcome in
-    let ran : List (ℕ × ℕ) = c.self.inside.parts.cycle.ran in
+    let ran : Ran = c.self.inside.parts.cycle.ran in
     let told : List Line = c.self.inside.parts.region.told in
     let some : 0 < length (outcome_lines o ran) =
     some_told o ran (was_ended c.self.inside c.self.invariant (rw (← c.self.view_is) at c.requires)) in
-    rw (← c.self.view_is) (last_behind told (outcome_lines o ran) some ∙ rw c.ran.ensures at c.last_line.ensures)
+    rw (← c.self.view_is) (last_behind told (outcome_lines o ran) some ∙ rw c.registered.ensures at c.last_line.ensures)

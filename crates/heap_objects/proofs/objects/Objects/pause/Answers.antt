@@ -1,10 +1,10 @@
 use Rattle.std.specs.Arc.{arc_value}
 use Rattle.marker_core.specs.declared.states.Body.{Body}
 use Rattle.page_space.specs.Space.{extents_of_bodies}
-use Rattle.std.proofs.Common.{◌≡◌, ◌+◌, ◌<◌, List, Bool, false, length, ◌++◌, sym, ap, ◌∙◌, subst, arith}
+use Rattle.std.proofs.Common.{◌≡◌, ℕ, ◌+◌, ◌<◌, List, Bool, false, length, ◌++◌, sym, ap, ◌∙◌, subst, arith}
 use Rattle.std.specs.List.{All}
 use Rattle.std.specs.Option.{ForSome}
-use Rattle.gc_graph.specs.State.{Node, slot_targets}
+use Rattle.gc_graph.specs.State.{ObjectType, Node, slot_targets}
 use Rattle.mark_worklist.specs.declared.marking.Marking.{Marking}
 use Rattle.mark_worklist.specs.Refusals.{TellsRefused, refusals_of}
 use Rattle.mark_worklist.specs.Told.{told_then}
@@ -176,9 +176,14 @@ pub returns-clause-paused : goal.returns-clause-paused
 returns-clause-paused g c =
     let kinds : callback_kinds c.args.callbacks.now ≡ c.self.inside.kinds.value = rw (← c.self.view_is) at c.requires.kinds in
     rw (← c.self.view_is) (λ slots may named marks.
-    subst (λ ks. IsPaused ks (slot_targets slots ++ shared_roots c.pause-result.new.parts.1.1.1.1.1.0 ++ hits_in c.args.precise c.self.inside.nodes.value c.args.stack.now)
-    (members may ++ shared_roots c.pause-result.new.parts.1.1.1.1.1.0 ++ hits_in c.args.precise c.self.inside.nodes.value c.args.stack.now) c.self.inside.nodes.value c.pause-result.new.parts.1.0.value c.args.registry.now c.pause-result.new.parts.1.1.1.1.0)
-    kinds (c.pause-result.ensures.paused slots may named (may_joined c.self.inside.nodes.value c.self.inside.seat c.join_if_running-crew.new.seat may c.join_if_running-crew.ensures.joined.same marks.may_is)))
+    let least : List ℕ = slot_targets slots ++ shared_roots c.pause-result.new.parts.1.1.1.1.1.1.0 ++ hits_in c.args.precise c.self.inside.nodes.value c.args.stack.now in
+    let most : List ℕ = members may ++ shared_roots c.pause-result.new.parts.1.1.1.1.1.1.0 ++ hits_in c.args.precise c.self.inside.nodes.value c.args.stack.now in
+    let new : List Node = c.pause-result.new.parts.1.0.value in
+    subst (λ (ts : List ObjectType). IsPaused c.self.inside.kinds.value ts least most c.self.inside.nodes.value new c.args.registered.now.prefinalizers
+    c.pause-result.new.parts.1.1.1.1.0 c.pause-result.new.parts.1.1.1.1.1.0) c.deref.ensures
+    (subst (λ ks. IsPaused ks c.deref.result.now least most c.self.inside.nodes.value new c.args.registered.now.prefinalizers
+    c.pause-result.new.parts.1.1.1.1.0 c.pause-result.new.parts.1.1.1.1.1.0) kinds
+    (c.pause-result.ensures.paused slots may named (may_joined c.self.inside.nodes.value c.self.inside.seat c.join_if_running-crew.new.seat may c.join_if_running-crew.ensures.joined.same marks.may_is))))
 
 pub returns-clause-sizes : goal.returns-clause-sizes
 returns-clause-sizes g c = λ n live.

@@ -22,7 +22,7 @@ use Rattle.heap_cycle.specs.Refused.{RefusalsTold}
 use Rattle.heap_cycle.specs.declared.parts.Parts.{Parts}
 use Rattle.heap_cycle.specs.Cycles.{AreSlotsMarked, HasNoRefusedPush}
 use Rattle.heap_cycle.specs.Parts.{setup_of, state_of, counted, AreTied, IsManned, IsReady}
-use Rattle.heap_cycle.specs.Printed.{TellsNode, IsOutcome, lines_with, outcome_lines}
+use Rattle.heap_cycle.specs.Printed.{TellsNode, IsOutcome, count_ran, lines_with, outcome_lines}
 use Rattle.heap_cycle.specs.Region.{HasRegion}
 use Rattle.heap_cycle.specs.Views.{CycleView}
 use Rattle.heap_cycle.specs.Walks.{IsWalkToldIn}
@@ -64,6 +64,7 @@ tied_published s tied = record {
   weak = tied.weak;
   stack = tied.stack;
   registered = tied.registered;
+  weakly = tied.weakly;
   sweep = tied.sweep;
   marks = tied.marks;
   traced = tied.traced;
@@ -105,7 +106,7 @@ module _
   -- the outcome is one of a command
   pub told : IsOutcome c.run.new.outcome c.count_command.new.self.ran
   told = record {
-    ran_some = λ runs. omega (arith, is.ran runs, ap (λ (k : CycleView). length k.ran) c.count_command.ensures);
+    ran_some = λ runs. omega (arith, is.ran runs, ap (λ (k : CycleView). count_ran k.ran) c.count_command.ensures);
     last_plain = elim is.region.joined [
       | inl none ↦ subst (λ (last : Option Line). IfSome last (λ l. TellsNode l → ⊥)) (sym is.ended)
           (last_plain c.commands_are_answered_in_kind.ensures (setup_of c.self.inside.parts) (state_of c.self.inside.parts) c.args.command.now
