@@ -5,7 +5,7 @@ use Rattle.std.proofs.lemmas.Bool.{cond-true, cond-false, eq-eqb, ne_eqb, cases_
 use Rattle.std.proofs.lemmas.Slice.Eq.{bytes_eq-Decides}
 use Rattle.gc_graph.specs.declared.command.Command.{Command}
 use Rattle.gc_graph.specs.Words.{is_text}
-use Rattle.gc_graph.specs.Forms.{Place, Form, form_of, type_places, form_after_gc, form_after_at, places_of, plain_form, gc_form, at_form, row_named, rows, gc_rows, at_rows, thread}
+use Rattle.gc_graph.specs.Forms.{Place, Form, form_of, form_after_gc, form_after_at, places_of, plain_form, gc_form, at_form, row_named, rows, gc_rows, at_rows, thread}
 use Rattle.gc_graph.specs.Forms.{Row as GrammarRow}
 use Rattle.gc_graph.specs.Forms.Place.{Fixed}
 use Rattle.gc_graph.specs.Forms.Form.{Missing, Unknown, Known}
@@ -33,22 +33,20 @@ pub record IsRowOf (bounds : Bounds) (row : Row) (bytes : List ℕ) (before : Sa
 
 -- ---- the first word
 
-pub form_of_gc : (first : List ℕ) (rest : List (List ℕ)) → is_text first (codes "type") ≡ false → is_text first (codes "gc") ≡ true
+pub form_of_gc : (first : List ℕ) (rest : List (List ℕ)) → is_text first (codes "gc") ≡ true
     → form_of (first ∷ rest) ≡ form_after_gc rest
-form_of_gc first rest type gc =
+form_of_gc first rest gc =
     let after_at : Form = cond (is_text first (codes "at")) (form_after_at rest) (plain_form (length rest) (row_named first rows)) in
     let after_gc : Form = cond (is_text first (codes "gc")) (form_after_gc rest) after_at in
-    cond-false (is_text first (codes "type")) (Known (type_places rest) (λ numbers. None)) after_gc type
-    ∙ cond-true (is_text first (codes "gc")) (form_after_gc rest) after_at gc
+    cond-true (is_text first (codes "gc")) (form_after_gc rest) after_at gc
 
-pub form_of_at : (first : List ℕ) (rest : List (List ℕ)) → is_text first (codes "type") ≡ false → is_text first (codes "gc") ≡ false
+pub form_of_at : (first : List ℕ) (rest : List (List ℕ)) → is_text first (codes "gc") ≡ false
     → is_text first (codes "at") ≡ true → form_of (first ∷ rest) ≡ form_after_at rest
-form_of_at first rest type gc at =
+form_of_at first rest gc at =
     let plain : Form = plain_form (length rest) (row_named first rows) in
     let after_at : Form = cond (is_text first (codes "at")) (form_after_at rest) plain in
     let after_gc : Form = cond (is_text first (codes "gc")) (form_after_gc rest) after_at in
-    cond-false (is_text first (codes "type")) (Known (type_places rest) (λ numbers. None)) after_gc type
-    ∙ cond-false (is_text first (codes "gc")) (form_after_gc rest) after_at gc
+    cond-false (is_text first (codes "gc")) (form_after_gc rest) after_at gc
     ∙ cond-true (is_text first (codes "at")) (form_after_at rest) plain at
 
 -- ---- a known form
@@ -90,7 +88,7 @@ plain_is_row bounds row bytes before first type gc at named within low half none
     let words : List (List ℕ) = first ∷ rest in
     let places : List Place = places_of (row_by row) (length rest) in
     let form : form_of words ≡ Known places (command_of row.make) =
-    form_of_plain first rest type gc at ∙ ap (plain_form (length rest)) named in
+    form_of_plain first rest gc at ∙ ap (plain_form (length rest)) named in
     let known = known_rank (bounds_of bounds) places (command_of row.make) words in
     let many = many_elsewhere (bounds_of bounds) words type in
     record {
@@ -132,7 +130,7 @@ gc_is_row bounds row bytes before first second type gc named within single low n
     let some : List Place = places_of (row_by row) (length rest) in
     let places : List Place = Fixed row.name.now ∷ some in
     let form : form_of words ≡ Known places (command_of row.make) =
-    form_of_gc first (second ∷ rest) type gc ∙ ap (gc_form (length rest)) named in
+    form_of_gc first (second ∷ rest) gc ∙ ap (gc_form (length rest)) named in
     let known = known_rank (bounds_of bounds) places (command_of row.make) words in
     let many = many_elsewhere (bounds_of bounds) words type in
     let half = half_elsewhere first (second ∷ rest) (other_text first (codes "gc") (codes "pair") gc refl) in
@@ -173,7 +171,7 @@ at_is_row bounds row bytes before first j third type gc at named within single l
     let some : List Place = places_of (row_by row) (length rest) in
     let places : List Place = thread ∷ Fixed row.name.now ∷ some in
     let form : form_of words ≡ Known places (command_of row.make) =
-    form_of_at first (j ∷ third ∷ rest) type gc at ∙ ap (at_form (length rest)) named in
+    form_of_at first (j ∷ third ∷ rest) gc at ∙ ap (at_form (length rest)) named in
     let known = known_rank (bounds_of bounds) places (command_of row.make) words in
     let many = many_elsewhere (bounds_of bounds) words type in
     let half = half_elsewhere first (j ∷ third ∷ rest) (other_text first (codes "at") (codes "pair") at refl) in

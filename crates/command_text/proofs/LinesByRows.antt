@@ -89,5 +89,5 @@ pub plain_unknown : (bounds : GrammarBounds) (bytes first : List ℕ) (from : �
 plain_unknown bounds bytes first from line type gc at nowhere is =
     let rest : List (List ℕ) = line_words (drop from bytes) in
     refused_line bounds (first ∷ rest) bytes from 2 line
-    (unknown_form bounds (first ∷ rest) (form_of_plain first rest type gc at ∙ ap (plain_form (length rest)) nowhere))
+    (unknown_form bounds (first ∷ rest) (form_of_plain first rest gc at ∙ ap (plain_form (length rest)) nowhere))
     (λ e. omega (arith, e)) type is

@@ -44,7 +44,7 @@ gc_missing bounds bytes from start end line next none is first gc =
     let type : is_text first (codes "type") ≡ false = other_text first (codes "gc") (codes "type") gc refl in
     let nothing : line_words (drop from bytes) ≡ [] = (next.none (omega (arith, none))).0 in
     subst (λ (ws : List (List ℕ)). IsCommandLine bounds (first ∷ ws) bytes from line) (sym nothing)
-    (refused_line bounds (first ∷ []) bytes from 4 line (missing_form bounds (first ∷ []) [] (form_of_gc first [] type gc))
+    (refused_line bounds (first ∷ []) bytes from 4 line (missing_form bounds (first ∷ []) [] (form_of_gc first [] gc))
     (λ e. omega (arith, e)) type is)
 
 pub gc_unknown : (bounds : GrammarBounds) (bytes : List ℕ) (from start end : ℕ) (line : CommandLine) → IsNextWord bytes from start end
@@ -57,7 +57,7 @@ gc_unknown bounds bytes from start end line next some nowhere is first gc =
     let second : List ℕ = take (end - start) (drop start bytes) in
     subst (λ (ws : List (List ℕ)). IsCommandLine bounds (first ∷ ws) bytes from line) (sym (next.some (omega (arith, some, next.order))))
     (refused_line bounds (first ∷ second ∷ rest) bytes from 2 line
-    (unknown_form bounds (first ∷ second ∷ rest) (form_of_gc first (second ∷ rest) type gc ∙ ap (gc_form (length rest)) nowhere))
+    (unknown_form bounds (first ∷ second ∷ rest) (form_of_gc first (second ∷ rest) gc ∙ ap (gc_form (length rest)) nowhere))
     (λ e. omega (arith, e)) type is)
 
 pub gc_done : (bounds : Bounds) (row : Row) (bytes : List ℕ) (from start end : ℕ) (before : Said) (line : CommandLine)
@@ -86,7 +86,7 @@ at_missing bounds bytes from start end line next none is first at =
     let gc : is_text first (codes "gc") ≡ false = other_text first (codes "at") (codes "gc") at refl in
     let nothing : line_words (drop from bytes) ≡ [] = (next.none (omega (arith, none))).0 in
     subst (λ (ws : List (List ℕ)). IsCommandLine bounds (first ∷ ws) bytes from line) (sym nothing)
-    (refused_line bounds (first ∷ []) bytes from 4 line (missing_form bounds (first ∷ []) [] (form_of_at first [] type gc at))
+    (refused_line bounds (first ∷ []) bytes from 4 line (missing_form bounds (first ∷ []) [] (form_of_at first [] gc at))
     (λ e. omega (arith, e)) type is)
 
 -- the thread stands there, and the word that chooses the order may
@@ -117,7 +117,7 @@ at_thread_alone bounds bytes from mid rank j start end total line its next none 
     its.words ∙ ap (λ (ws : List (List ℕ)). j ∷ ws) (next.none (omega (arith, none))).0 in
     subst (λ (ws : List (List ℕ)). IsCommandLine bounds (first ∷ ws) bytes from line) (sym words)
     (refused_line bounds (first ∷ j ∷ []) bytes from total line
-    (missing_form bounds (first ∷ j ∷ []) (thread ∷ []) (form_of_at first (j ∷ []) type gc at) ∙ omega (arith, sum, its.rank_is))
+    (missing_form bounds (first ∷ j ∷ []) (thread ∷ []) (form_of_at first (j ∷ []) gc at) ∙ omega (arith, sum, its.rank_is))
     (λ e. omega (arith, e, sum)) type is)
 
 pub at_unknown : (bounds : GrammarBounds) (bytes : List ℕ) (from mid rank : ℕ) (j : List ℕ) (start end : ℕ) (line : CommandLine)
@@ -134,7 +134,7 @@ at_unknown bounds bytes from mid rank j start end line its next some nowhere is 
     its.words ∙ ap (λ (ws : List (List ℕ)). j ∷ ws) (next.some (omega (arith, some, next.order))) in
     subst (λ (ws : List (List ℕ)). IsCommandLine bounds (first ∷ ws) bytes from line) (sym words)
     (refused_line bounds (first ∷ j ∷ third ∷ rest) bytes from 2 line
-    (unknown_form bounds (first ∷ j ∷ third ∷ rest) (form_of_at first (j ∷ third ∷ rest) type gc at ∙ ap (at_form (length rest)) nowhere))
+    (unknown_form bounds (first ∷ j ∷ third ∷ rest) (form_of_at first (j ∷ third ∷ rest) gc at ∙ ap (at_form (length rest)) nowhere))
     (λ e. omega (arith, e)) type is)
 
 pub at_done : (bounds : Bounds) (row : Row) (bytes : List ℕ) (from mid rank : ℕ) (j : List ℕ) (start end value : ℕ) (before : Said) (line : CommandLine)

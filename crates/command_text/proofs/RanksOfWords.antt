@@ -1,10 +1,10 @@
 -- From the ranks of words to the reason that they give.
-use Rattle.std.proofs.Common.{◌≡◌, ℕ, ◌≤◌, ◌==◌, ◌||◌, ◌&&◌, nat_lt, nat_le, codes, not, min, Bool, true, false, Option, Some, None, cond, List, [], ◌∷◌, length, refl, sym, ap, ◌∙◌, arith}
+use Rattle.std.proofs.Common.{◌≡◌, ℕ, ◌≤◌, ◌==◌, ◌||◌, ◌&&◌, nat_le, codes, not, min, Bool, true, false, Option, Some, None, cond, List, [], ◌∷◌, length, refl, sym, ap, ◌∙◌, arith}
 use Rattle.gc_graph.specs.declared.command.Command.{Command}
 use Rattle.gc_graph.specs.Words.{is_text}
 use Rattle.gc_graph.specs.Forms.{Place, Form, form_of}
 use Rattle.gc_graph.specs.Forms.Form.{Missing, Known}
-use Rattle.gc_graph.specs.Reasons.{Reason, Bounds, number_of, reason_of_words, any_word, rest_of, is_unknown, is_bad, is_outside, is_half, is_half_null, first_is, has_unknown_word, has_bad_number, has_other_count, has_outside, has_too_many}
+use Rattle.gc_graph.specs.Reasons.{Reason, Bounds, number_of, reason_of_command, any_word, rest_of, is_unknown, is_bad, is_outside, is_half, is_half_null, first_is, has_unknown_word, has_bad_number, has_other_count, has_outside, is_any_too_large, type_of_words, has_too_many}
 use Rattle.gc_graph.specs.Reasons.Reason.{UnknownWord, BadNumber, Count, Range}
 use Rattle.command_text.specs.Ranks.{rank_by, rank_at, lowest, count_rank, half_rank, many_rank, form_rank, reason_ranked}
 
@@ -126,7 +126,7 @@ reason_by false false false true = refl
 reason_by false false false false = refl
 
 -- the reason that words give is that of their rank
-pub ranked : (bounds : Bounds) (words : List (List ℕ)) → reason_of_words bounds words ≡ reason_ranked (form_rank bounds (form_of words) words)
+pub ranked : (bounds : Bounds) (words : List (List ℕ)) → reason_of_command bounds words ≡ reason_ranked (form_rank bounds (form_of words) words)
 ranked bounds words =
     let form : Form = form_of words in
     reason_by (has_unknown_word form words) (has_bad_number form words) (has_other_count form words)
@@ -142,12 +142,12 @@ rank_tells false false false true low = (Range, refl, refl)
 rank_tells false false false false low = absurd (low refl)
 
 -- words without a reason have rank 9
-pub faultless : (bounds : Bounds) (words : List (List ℕ)) → form_rank bounds (form_of words) words ≡ 9 → reason_of_words bounds words ≡ None
+pub faultless : (bounds : Bounds) (words : List (List ℕ)) → form_rank bounds (form_of words) words ≡ 9 → reason_of_command bounds words ≡ None
 faultless bounds words e = ranked bounds words ∙ ap reason_ranked e
 
 -- and others the number of their reason
 pub faulty : (bounds : Bounds) (words : List (List ℕ)) → (form_rank bounds (form_of words) words ≡ 9 → ⊥)
-    → (why : Reason) × (form_rank bounds (form_of words) words ≡ number_of why) × (reason_of_words bounds words ≡ Some why)
+    → (why : Reason) × (form_rank bounds (form_of words) words ≡ number_of why) × (reason_of_command bounds words ≡ Some why)
 faulty bounds words low =
     let form : Form = form_of words in
     let tells : (why : Reason) × (form_rank bounds form words ≡ number_of why) × (reason_ranked (form_rank bounds form words) ≡ Some why) =
@@ -167,4 +167,4 @@ half_elsewhere first (p ∷ f ∷ k ∷ v ∷ more) other = ap (λ b. cond (b &&
 
 -- and only a type line has too many callbacks or types before it
 pub many_elsewhere : (bounds : Bounds) (words : List (List ℕ)) → first_is (codes "type") words ≡ false → many_rank bounds words ≡ 9
-many_elsewhere bounds words other = ap (λ b. cond (b && (nat_lt 19 (length words) || nat_le 16383 bounds.types)) 5 9) other
+many_elsewhere bounds words other = ap (λ b. cond (b && (is_any_too_large (type_of_words words) || nat_le 16383 bounds.types)) 5 9) other

@@ -4,7 +4,7 @@ use Rattle.gc_graph.specs.declared.command.Command.{Command}
 use Rattle.gc_graph.specs.declared.command.Command.TheVariants as C
 use Rattle.gc_graph.specs.Words.{is_text}
 use Rattle.gc_graph.specs.Forms.{Place}
-use Rattle.gc_graph.specs.Reasons.{Bounds, says, first_is, reason_of_words, command_of_words}
+use Rattle.gc_graph.specs.Reasons.{Bounds, says, first_is, reason_of_command, command_of_words}
 use Rattle.line_words.specs.Cursor.{IsLineEnd}
 use Rattle.command_text.specs.declared.making.OneForm.TheVariants as N
 use Rattle.command_text.specs.declared.making.TwoForm.TheVariants as T
@@ -36,7 +36,7 @@ is_frequent command = false
 
 -- the words say this command and have no fault, and the line ends there
 pub record IsQuickLine (bounds : Bounds) (words : List (List ℕ)) (bytes : List ℕ) (from : ℕ) (line : QuickLine) : Type 0 where
-  pub fine : reason_of_words bounds words ≡ None
+  pub fine : reason_of_command bounds words ≡ None
   pub says : command_of_words words ≡ Some line.command
   pub ends : IsLineEnd bytes from line.end
   pub type_free : first_is (codes "type") words ≡ false

@@ -1,4 +1,3 @@
-pub mod HeaderLine
 pub mod LineReasons
 pub mod LinesInTurn
 pub mod LinesJudged
@@ -8,4 +7,7 @@ pub mod ReadSoFar
 pub mod ScriptEnds
 pub mod Sections
 pub mod TypeCallbacks
+pub mod TypeLists
 pub mod TypeReasons
+pub mod TypeWords
+pub mod WeakWords

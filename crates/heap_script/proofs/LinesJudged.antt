@@ -8,15 +8,15 @@ use Rattle.std.proofs.lemmas.List.Folds.{list_all_at}
 use Rattle.gc_graph.specs.Words.{words_of, is_blank}
 use Rattle.gc_graph.specs.Reasons.{Reason, first_is, reason_of_words}
 use Rattle.gc_graph.specs.Reasons.Reason.{Order, Section}
-use Rattle.gc_graph.specs.Script.{is_command, is_order, is_go, is_join, are_going, are_waiting, are_at_rest, threads_of, threads_after, reason_by_order, bounds_after, reason_of, reason_at}
+use Rattle.gc_graph.specs.Script.{is_command, is_order, is_go, is_join, are_going, are_waiting, are_at_rest, threads_of, threads_after, reason_by_order, version_of, bounds_after, reason_of, reason_at}
 
 -- the reason by itself, and before others with words
-abbrev words_reason : ℕ → List (List ℕ) → List ℕ → Option Reason
-words_reason callbacks before line = reason_of_words (bounds_after callbacks before) (words_of line)
+abbrev words_reason : ℕ → ℕ → List (List ℕ) → List ℕ → Option Reason
+words_reason version callbacks before line = reason_of_words version (bounds_after callbacks before) (words_of line)
 
-abbrev pub judged : ℕ → List (List ℕ) → List ℕ → Option Reason
-judged callbacks before line =
-    cond (is_blank line) None (reason_by_order before (words_of line) false (words_reason callbacks before line))
+abbrev pub judged : ℕ → ℕ → List (List ℕ) → List ℕ → Option Reason
+judged version callbacks before line =
+    cond (is_blank line) None (reason_by_order before (words_of line) false (words_reason version callbacks before line))
 
 -- ---- sections
 
@@ -107,44 +107,44 @@ last_by before words None e r =
 pub blank_fine : (callbacks : ℕ) (header line : List ℕ) (before after : List (List ℕ)) → is_blank line ≡ true
     → reason_of callbacks (header ∷ before) line after ≡ None
 blank_fine callbacks header line before after blank =
-    cond-true (is_blank line) None (reason_by_order before (words_of line) (list_all is_blank after) (words_reason callbacks before line)) blank
+    cond-true (is_blank line) None (reason_by_order before (words_of line) (list_all is_blank after) (words_reason (version_of header) callbacks before line)) blank
 
 pub as_judged : (callbacks : ℕ) (header line : List ℕ) (before after : List (List ℕ)) → list_all is_blank after ≡ false
-    → reason_of callbacks (header ∷ before) line after ≡ judged callbacks before line
+    → reason_of callbacks (header ∷ before) line after ≡ judged (version_of header) callbacks before line
 as_judged callbacks header line before after more =
-    ap (λ b. cond (is_blank line) None (reason_by_order before (words_of line) b (words_reason callbacks before line))) more
+    ap (λ b. cond (is_blank line) None (reason_by_order before (words_of line) b (words_reason (version_of header) callbacks before line))) more
 
 -- the reason by order, where the line isn't blank
 of_words : (callbacks : ℕ) (header line : List ℕ) (before after : List (List ℕ)) → is_blank line ≡ false
     → reason_of callbacks (header ∷ before) line after
-    ≡ reason_by_order before (words_of line) (list_all is_blank after) (words_reason callbacks before line)
+    ≡ reason_by_order before (words_of line) (list_all is_blank after) (words_reason (version_of header) callbacks before line)
 of_words callbacks header line before after some =
-    cond-false (is_blank line) None (reason_by_order before (words_of line) (list_all is_blank after) (words_reason callbacks before line)) some
+    cond-false (is_blank line) None (reason_by_order before (words_of line) (list_all is_blank after) (words_reason (version_of header) callbacks before line)) some
 
-pub judged_words : (callbacks : ℕ) (line : List ℕ) (before : List (List ℕ)) → is_blank line ≡ false
-    → judged callbacks before line ≡ reason_by_order before (words_of line) false (words_reason callbacks before line)
-judged_words callbacks line before some =
-    cond-false (is_blank line) None (reason_by_order before (words_of line) false (words_reason callbacks before line)) some
+pub judged_words : (version callbacks : ℕ) (line : List ℕ) (before : List (List ℕ)) → is_blank line ≡ false
+    → judged version callbacks before line ≡ reason_by_order before (words_of line) false (words_reason version callbacks before line)
+judged_words version callbacks line before some =
+    cond-false (is_blank line) None (reason_by_order before (words_of line) false (words_reason version callbacks before line)) some
 
 pub found_fault : (callbacks : ℕ) (header line : List ℕ) (before after : List (List ℕ)) (reason : Reason) → is_blank line ≡ false
-    → judged callbacks before line ≡ Some reason → reason_of callbacks (header ∷ before) line after ≡ Some reason
+    → judged (version_of header) callbacks before line ≡ Some reason → reason_of callbacks (header ∷ before) line after ≡ Some reason
 found_fault callbacks header line before after reason some e =
     of_words callbacks header line before after some
-    ∙ found_by before (words_of line) (list_all is_blank after) (words_reason callbacks before line) reason (sym (judged_words callbacks line before some) ∙ e)
+    ∙ found_by before (words_of line) (list_all is_blank after) (words_reason (version_of header) callbacks before line) reason (sym (judged_words (version_of header) callbacks line before some) ∙ e)
 
 pub at_rest_fine : (callbacks : ℕ) (header line : List ℕ) (before after : List (List ℕ)) → is_blank line ≡ false
-    → judged callbacks before line ≡ None → rests before (words_of line) ≡ true → reason_of callbacks (header ∷ before) line after ≡ None
+    → judged (version_of header) callbacks before line ≡ None → rests before (words_of line) ≡ true → reason_of callbacks (header ∷ before) line after ≡ None
 at_rest_fine callbacks header line before after some e r =
     of_words callbacks header line before after some
-    ∙ fine_by before (words_of line) (list_all is_blank after) (words_reason callbacks before line) (sym (judged_words callbacks line before some) ∙ e) r
+    ∙ fine_by before (words_of line) (list_all is_blank after) (words_reason (version_of header) callbacks before line) (sym (judged_words (version_of header) callbacks line before some) ∙ e) r
 
 pub last_fault : (callbacks : ℕ) (header line : List ℕ) (before after : List (List ℕ)) → is_blank line ≡ false
-    → judged callbacks before line ≡ None → rests before (words_of line) ≡ false → list_all is_blank after ≡ true
+    → judged (version_of header) callbacks before line ≡ None → rests before (words_of line) ≡ false → list_all is_blank after ≡ true
     → reason_of callbacks (header ∷ before) line after ≡ Some Section
 last_fault callbacks header line before after some e r blank =
     of_words callbacks header line before after some
-    ∙ ap (λ b. reason_by_order before (words_of line) b (words_reason callbacks before line)) blank
-    ∙ last_by before (words_of line) (words_reason callbacks before line) (sym (judged_words callbacks line before some) ∙ e) r
+    ∙ ap (λ b. reason_by_order before (words_of line) b (words_reason (version_of header) callbacks before line)) blank
+    ∙ last_by before (words_of line) (words_reason (version_of header) callbacks before line) (sym (judged_words (version_of header) callbacks line before some) ∙ e) r
 
 -- ---- blank lines
 

@@ -38,8 +38,8 @@ pub record IsPast (before : List (List ℕ)) (past : Past) (types : List ObjectT
   pub types_are : types ≡ types_of before
   pub commands_are : commands ≡ commands_of before
 
-pub nothing_read : IsPast [] past_header [] []
-nothing_read = record { counted = refl; bare = refl; threads = refl; types_are = refl; commands_are = refl }
+pub nothing_read : (version : ℕ) → IsPast [] (past_header version) [] []
+nothing_read version = record { counted = refl; bare = refl; threads = refl; types_are = refl; commands_are = refl }
 
 -- ---- one line more
 
@@ -165,11 +165,12 @@ by_past before words past None bare threads =
     ap (λ b. cond (first_is (codes "type") words && b) (Some Order) (cond (breaks_section (threads_of before) words false) (Some Section) None)) bare
     ∙ ap (λ t. cond (first_is (codes "type") words && not past.bare) (Some Order) (cond (breaks_section t words false) (Some Section) None)) threads
 
-pub judged_is : (callbacks : ℕ) (before words : List (List ℕ)) (line : List ℕ) (past : Past) (types : List ObjectType) (commands : List Command)
-    → IsPast before past types commands → is_blank line ≡ false → words_of line ≡ words
-    → judged callbacks before line ≡ reason_after callbacks past words
-judged_is callbacks before words line past types commands read some are =
-    judged_words callbacks line before some
-    ∙ ap (λ (ws : List (List ℕ)). reason_by_order before ws false (reason_of_words (bounds_after callbacks before) ws)) are
-    ∙ ap (λ n. reason_by_order before words false (reason_of_words (record { types = n; callbacks = callbacks }) words)) read.counted
-    ∙ by_past before words past (reason_of_words (bounds_in callbacks past) words) read.bare read.threads
+pub judged_is : (version callbacks : ℕ) (before words : List (List ℕ)) (line : List ℕ) (past : Past) (types : List ObjectType) (commands : List Command)
+    → past.version ≡ version → IsPast before past types commands → is_blank line ≡ false → words_of line ≡ words
+    → judged version callbacks before line ≡ reason_after callbacks past words
+judged_is version callbacks before words line past types commands named read some are =
+    judged_words version callbacks line before some
+    ∙ ap (λ (ws : List (List ℕ)). reason_by_order before ws false (reason_of_words version (bounds_after callbacks before) ws)) are
+    ∙ ap (λ n. reason_by_order before words false (reason_of_words version (record { types = n; callbacks = callbacks }) words)) read.counted
+    ∙ ap (λ v. reason_by_order before words false (reason_of_words v (bounds_in callbacks past) words)) (sym named)
+    ∙ by_past before words past (reason_of_words past.version (bounds_in callbacks past) words) read.bare read.threads

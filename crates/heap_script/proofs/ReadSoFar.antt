@@ -25,18 +25,20 @@ pub record IsLast (lines : List (List ℕ)) (n : ℕ) (past : Past) : Type 0 whe
       × (threads_after (threads_of (take k lines)) (words_of (get_or lines k [])) ≡ threads_of_stage past.stage))
 
 -- n lines after the header were read, and say this
-pub record IsReadTo (callbacks : ℕ) (lines : List (List ℕ)) (n : ℕ) (past : Past) (types : List ObjectType) (commands : List Command) : Type 0 where
+pub record IsReadTo (version callbacks : ℕ) (lines : List (List ℕ)) (n : ℕ) (past : Past) (types : List ObjectType) (commands : List Command) : Type 0 where
   pub count : past.lines ≡ n + 1
   pub within : n ≤ length lines
+  pub version_is : past.version ≡ version
   pub say : IsPast (take n lines) past types commands
-  pub fine : (j : ℕ) → j < n → judged callbacks (take j lines) (get_or lines j []) ≡ None
+  pub fine : (j : ℕ) → j < n → judged version callbacks (take j lines) (get_or lines j []) ≡ None
   pub last : IsLast lines n past
 
-pub begun : (callbacks : ℕ) (lines : List (List ℕ)) → IsReadTo callbacks lines 0 past_header [] []
-begun callbacks lines = record {
+pub begun : (version callbacks : ℕ) (lines : List (List ℕ)) → IsReadTo version callbacks lines 0 (past_header version) [] []
+begun version callbacks lines = record {
   count = refl;
   within = omega arith;
-  say = nothing_read;
+  version_is = refl;
+  say = nothing_read version;
   fine = λ j l. absurd (omega arith);
   last = record {
     first = omega arith;
@@ -61,18 +63,19 @@ rest_is lines more n line e =
 
 -- ---- one line more
 
-blank_more : (callbacks : ℕ) (lines more : List (List ℕ)) (n : ℕ) (line : List ℕ) (past : Past) (types : List ObjectType) (commands : List Command)
-    → IsReadTo callbacks lines n past types commands → drop n lines ≡ line ∷ more → words_of line ≡ []
-    → IsReadTo callbacks lines (n + 1) (with_blank past) types commands
-blank_more callbacks lines more n line past types commands read e none =
+blank_more : (version callbacks : ℕ) (lines more : List (List ℕ)) (n : ℕ) (line : List ℕ) (past : Past) (types : List ObjectType) (commands : List Command)
+    → IsReadTo version callbacks lines n past types commands → drop n lines ≡ line ∷ more → words_of line ≡ []
+    → IsReadTo version callbacks lines (n + 1) (with_blank past) types commands
+blank_more version callbacks lines more n line past types commands read e none =
     let low : n < length lines = next_there lines more n line e in
     let are : words_of (get_or lines n []) ≡ [] = ap words_of (next_is lines more n line e) ∙ none in
     let blank : is_blank (get_or lines n []) ≡ true = ap (λ (words : List (List ℕ)). length words == 0) are in
     record {
       count = omega (arith, read.count);
       within = omega arith;
+      version_is = read.version_is;
       say = past_blank lines n past types commands low read.say blank;
-      fine = below_more (λ j. judged callbacks (take j lines) (get_or lines j []) ≡ None) n read.fine (cond-true (is_blank (get_or lines n [])) None _ blank);
+      fine = below_more (λ j. judged version callbacks (take j lines) (get_or lines j []) ≡ None) n read.fine (cond-true (is_blank (get_or lines n [])) None _ blank);
       last = record {
         first = read.last.first;
         within = omega (arith, read.last.within);
@@ -85,25 +88,26 @@ blank_more callbacks lines more n line past types commands read e none =
     }
 
 -- a line with words
-words_more : (callbacks : ℕ) (lines more : List (List ℕ)) (n : ℕ) (line : List ℕ) (past next : Past) (types new_types : List ObjectType)
-    (commands new_commands : List Command) (words : List (List ℕ)) → IsReadTo callbacks lines n past types commands
+words_more : (version callbacks : ℕ) (lines more : List (List ℕ)) (n : ℕ) (line : List ℕ) (past next : Past) (types new_types : List ObjectType)
+    (commands new_commands : List Command) (words : List (List ℕ)) → IsReadTo version callbacks lines n past types commands
     → drop n lines ≡ line ∷ more → words_of line ≡ words → is_blank line ≡ false → reason_after callbacks past words ≡ None
-    → IsPast (take (n + 1) lines) next new_types new_commands → next.lines ≡ past.lines + 1 → next.last ≡ past.lines + 1
-    → IsReadTo callbacks lines (n + 1) next new_types new_commands
-words_more callbacks lines more n line past next types new_types commands new_commands words read e are some fine say count last =
+    → next.version ≡ past.version → IsPast (take (n + 1) lines) next new_types new_commands → next.lines ≡ past.lines + 1 → next.last ≡ past.lines + 1
+    → IsReadTo version callbacks lines (n + 1) next new_types new_commands
+words_more version callbacks lines more n line past next types new_types commands new_commands words read e are some fine same say count last =
     let low : n < length lines = next_there lines more n line e in
     let at : get_or lines n [] ≡ line = next_is lines more n line e in
     let blank : is_blank (get_or lines n []) ≡ false = ap is_blank at ∙ some in
     let ws : words_of (get_or lines n []) ≡ words = ap words_of at ∙ are in
-    let here : judged callbacks (take n lines) (get_or lines n []) ≡ None =
-    judged_is callbacks (take n lines) words (get_or lines n []) past types commands read.say blank ws ∙ fine in
+    let here : judged version callbacks (take n lines) (get_or lines n []) ≡ None =
+    judged_is version callbacks (take n lines) words (get_or lines n []) past types commands read.version_is read.say blank ws ∙ fine in
     let threads : threads_after (threads_of (take n lines)) (words_of (get_or lines n [])) ≡ threads_of_stage next.stage =
     ap (threads_after (threads_of (take n lines))) ws ∙ sym (threads_more lines n words low ws) ∙ say.threads in
     record {
       count = omega (arith, read.count, count);
       within = omega arith;
+      version_is = same ∙ read.version_is;
       say = say;
-      fine = below_more (λ j. judged callbacks (take j lines) (get_or lines j []) ≡ None) n read.fine here;
+      fine = below_more (λ j. judged version callbacks (take j lines) (get_or lines j []) ≡ None) n read.fine here;
       last = record {
         first = omega (arith, last);
         within = omega (arith, last, read.count);
@@ -112,22 +116,22 @@ words_more callbacks lines more n line past next types new_types commands new_co
       };
     }
 
-line_more : (callbacks : ℕ) (lines more : List (List ℕ)) (n : ℕ) (line : List ℕ) (old new : Kept) (words : List (List ℕ))
-    → IsReadTo callbacks lines n old.past old.types.items old.commands.items → drop n lines ≡ line ∷ more → words_of line ≡ words
+line_more : (version callbacks : ℕ) (lines more : List (List ℕ)) (n : ℕ) (line : List ℕ) (old new : Kept) (words : List (List ℕ))
+    → IsReadTo version callbacks lines n old.past old.types.items old.commands.items → drop n lines ≡ line ∷ more → words_of line ≡ words
     → is_blank line ≡ false → reason_after callbacks old.past words ≡ None → IsLineKept words old new
-    → IsReadTo callbacks lines (n + 1) new.past new.types.items new.commands.items
-line_more callbacks lines more n line old new words read e are some fine (inl kept) =
+    → IsReadTo version callbacks lines (n + 1) new.past new.types.items new.commands.items
+line_more version callbacks lines more n line old new words read e are some fine (inl kept) =
     let low : n < length lines = next_there lines more n line e in
     let ws : words_of (get_or lines n []) ≡ words = ap words_of (next_is lines more n line e) ∙ are in
-    words_more callbacks lines more n line old.past new.past old.types.items new.types.items old.commands.items new.commands.items words
-    read e are some fine (past_type lines n old new words low read.say ws kept)
+    words_more version callbacks lines more n line old.past new.past old.types.items new.types.items old.commands.items new.commands.items words
+    read e are some fine (ap (λ (p : Past). p.version) kept.past) (past_type lines n old new words low read.say ws kept)
     (ap (λ (p : Past). p.lines) kept.past) (ap (λ (p : Past). p.last) kept.past)
-line_more callbacks lines more n line old new words read e are some fine (inr kept) =
+line_more version callbacks lines more n line old new words read e are some fine (inr kept) =
     let low : n < length lines = next_there lines more n line e in
     let at : get_or lines n [] ≡ line = next_is lines more n line e in
     let ws : words_of (get_or lines n []) ≡ words = ap words_of at ∙ are in
-    words_more callbacks lines more n line old.past new.past old.types.items new.types.items old.commands.items new.commands.items words
-    read e are some fine
+    words_more version callbacks lines more n line old.past new.past old.types.items new.types.items old.commands.items new.commands.items words
+    read e are some fine (ap (λ (p : Past). p.version) kept.past)
     (past_command callbacks lines n old new words low read.say ws (ap is_blank at ∙ some) fine kept)
     (ap (λ (p : Past). p.lines) kept.past) (ap (λ (p : Past). p.last) kept.past)
 
@@ -137,17 +141,17 @@ kept_lines words old new (inr kept) = ap (λ (p : Past). p.lines) kept.past
 
 -- ---- one line more, with words or without
 
-pub read_more : (callbacks : ℕ) (lines more : List (List ℕ)) (n : ℕ) (line : List ℕ) (old new : Kept) (words : List (List ℕ))
-    → IsReadTo callbacks lines n old.past old.types.items old.commands.items → drop n lines ≡ line ∷ more → words_of line ≡ words
+pub read_more : (version callbacks : ℕ) (lines more : List (List ℕ)) (n : ℕ) (line : List ℕ) (old new : Kept) (words : List (List ℕ))
+    → IsReadTo version callbacks lines n old.past old.types.items old.commands.items → drop n lines ≡ line ∷ more → words_of line ≡ words
     → IsLineRead callbacks words old new
-    → IsReadTo callbacks lines (n + 1) new.past new.types.items new.commands.items
-read_more callbacks lines more n line old new words read e are (inl blank) =
-    subst (λ past. IsReadTo callbacks lines (n + 1) past new.types.items new.commands.items) (sym blank.past)
-    (subst (λ types. IsReadTo callbacks lines (n + 1) (with_blank old.past) types new.commands.items) (sym blank.types)
-    (subst (IsReadTo callbacks lines (n + 1) (with_blank old.past) old.types.items) (sym blank.commands)
-    (blank_more callbacks lines more n line old.past old.types.items old.commands.items read e (are ∙ blank.none))))
-read_more callbacks lines more n line old new words read e are (inr kept) =
-    line_more callbacks lines more n line old new words read e are (ap (λ (ws : List (List ℕ)). length ws == 0) are ∙ kept.some) kept.fine kept.kept
+    → IsReadTo version callbacks lines (n + 1) new.past new.types.items new.commands.items
+read_more version callbacks lines more n line old new words read e are (inl blank) =
+    subst (λ past. IsReadTo version callbacks lines (n + 1) past new.types.items new.commands.items) (sym blank.past)
+    (subst (λ types. IsReadTo version callbacks lines (n + 1) (with_blank old.past) types new.commands.items) (sym blank.types)
+    (subst (IsReadTo version callbacks lines (n + 1) (with_blank old.past) old.types.items) (sym blank.commands)
+    (blank_more version callbacks lines more n line old.past old.types.items old.commands.items read e (are ∙ blank.none))))
+read_more version callbacks lines more n line old new words read e are (inr kept) =
+    line_more version callbacks lines more n line old new words read e are (ap (λ (ws : List (List ℕ)). length ws == 0) are ∙ kept.some) kept.fine kept.kept
 
 pub read_lines : (callbacks : ℕ) (words : List (List ℕ)) (old new : Kept) → IsLineRead callbacks words old new
     → new.past.lines ≡ old.past.lines + 1

@@ -3,14 +3,14 @@ use Rattle.std.proofs.Common.{◌≡◌, ℕ, zero, suc, ◌+◌, ◌<◌, ◌�
 use Rattle.std.specs.Prelude.{codes, nat_lt}
 use Rattle.std.specs.List.{list_all, cons_option}
 use Rattle.std.specs.Cmp.Lexicographic.{pointwise, bytes_decides}
-use Rattle.std.proofs.lemmas.Bool.{true≢false, cases_lt, cases_order, cond-true, cond-false, and_parts, and_left, and_right, and_from, lt-ltb, le-ltb, not_from_true, not_from_false, eq-eqb, ne_eqb}
+use Rattle.std.proofs.lemmas.Bool.{true≢false, cases_lt, cases_order, cond-true, cond-false, and_parts, or_cases, and_left, and_right, and_from, lt-ltb, le-ltb, not_from_true, not_from_false, eq-eqb, ne_eqb}
 use Rattle.std.proofs.lemmas.List.{take_all, length-drop, get_or-drop}
 use Rattle.gc_graph.specs.declared.command.Command.{Command}
 use Rattle.gc_graph.specs.State.{ObjectType}
 use Rattle.gc_graph.specs.Words.{lines_of, words_of, is_text, is_blank}
 use Rattle.gc_graph.specs.Reasons.{Reason, number_of, command_of_words, type_of_words}
 use Rattle.gc_graph.specs.Reasons.Reason.{Header, UnknownWord, BadNumber, Count, Range, Order, Section, TooLong}
-use Rattle.gc_graph.specs.Script.{IsInLimits, IsFirstFault, is_header, are_at_rest, threads_of, threads_after, reason_at}
+use Rattle.gc_graph.specs.Script.{IsInLimits, IsFirstFault, names_version, is_header, version_of, are_at_rest, threads_of, threads_after, reason_at}
 use Rattle.heap_script.specs.declared.script.ScriptFault.{ScriptFault}
 use Rattle.heap_script.specs.Scripts.{IsFaultOf}
 use Rattle.heap_script.specs.declared.past.Past.{Past}
@@ -23,17 +23,25 @@ use Rattle.heap_script.proofs.ReadSoFar.{IsReadTo, next_there, next_is}
 
 -- ---- the header
 
-header_words : (words : List (List ℕ)) → pointwise is_text words (codes "oilpan" ∷ codes "1" ∷ []) ≡ true → words ≡ codes "oilpan" ∷ codes "1" ∷ []
-header_words [] e = absurd (true≢false (sym e))
-header_words (x ∷ []) e = absurd (true≢false (sym e ∙ and_right (is_text x (codes "oilpan")) false refl))
-header_words (x ∷ y ∷ []) e =
-    let parts = and_parts (is_text x (codes "oilpan")) (is_text y (codes "1") && true) e in
-    let more = and_parts (is_text y (codes "1")) true parts.1 in
+header_words : (version : List ℕ) (words : List (List ℕ)) → pointwise is_text words (codes "oilpan" ∷ version ∷ []) ≡ true
+    → words ≡ codes "oilpan" ∷ version ∷ []
+header_words version [] e = absurd (true≢false (sym e))
+header_words version (x ∷ []) e = absurd (true≢false (sym e ∙ and_right (is_text x (codes "oilpan")) false refl))
+header_words version (x ∷ y ∷ []) e =
+    let parts = and_parts (is_text x (codes "oilpan")) (is_text y version && true) e in
+    let more = and_parts (is_text y version) true parts.1 in
     ap (λ w. w ∷ y ∷ []) ((bytes_decides x (codes "oilpan")).0 parts.0)
-    ∙ ap (λ w. codes "oilpan" ∷ w ∷ []) ((bytes_decides y (codes "1")).0 more.0)
-header_words (x ∷ y ∷ z ∷ words) e =
+    ∙ ap (λ w. codes "oilpan" ∷ w ∷ []) ((bytes_decides y version).0 more.0)
+header_words version (x ∷ y ∷ z ∷ words) e =
     absurd (true≢false (sym e
-    ∙ and_right (is_text x (codes "oilpan")) (is_text y (codes "1") && false) (and_right (is_text y (codes "1")) false refl)))
+    ∙ and_right (is_text x (codes "oilpan")) (is_text y version && false) (and_right (is_text y version) false refl)))
+
+-- the header's words are `oilpan` and another
+header_named : (header : List ℕ) → is_header header ≡ true → (version : List ℕ) × (words_of header ≡ codes "oilpan" ∷ version ∷ [])
+header_named header head = elim (or_cases (names_version (codes "1") header) (names_version (codes "2") header) head) [
+  | inl one ↦ (codes "1", header_words (codes "1") (words_of header) one)
+  | inr two ↦ (codes "2", header_words (codes "2") (words_of header) two)
+]
 
 -- what holds of 0 and of those after the numbers below n
 at_all : (P : ℕ → Type 0) (n : ℕ) → P 0 → ((j : ℕ) → j < n → P (suc j)) → (j : ℕ) → j < n + 1 → P j
@@ -45,16 +53,16 @@ header_fine callbacks header lines head = cond-true (is_header header) None (Som
 
 -- the header says nothing
 no_header_command : (header : List ℕ) → is_header header ≡ true → command_of_words (words_of header) ≡ None
-no_header_command header head = ap command_of_words (header_words (words_of header) head)
+no_header_command header head = ap command_of_words (header_named header head).1
 
 no_header_type : (header : List ℕ) → is_header header ≡ true → type_of_words (words_of header) ≡ None
-no_header_type header head = ap type_of_words (header_words (words_of header) head)
+no_header_type header head = ap type_of_words (header_named header head).1
 
 -- ---- lines without a fault
 
 -- before a line with words
 fine_before : (callbacks : ℕ) (header : List ℕ) (lines : List (List ℕ)) (n k : ℕ) → is_header header ≡ true
-    → ((j : ℕ) → j < n → judged callbacks (take j lines) (get_or lines j []) ≡ None) → k ≤ n → k < length lines
+    → ((j : ℕ) → j < n → judged (version_of header) callbacks (take j lines) (get_or lines j []) ≡ None) → k ≤ n → k < length lines
     → is_blank (get_or lines k []) ≡ false → (j : ℕ) → j < k + 1 → reason_at callbacks (header ∷ lines) j ≡ None
 fine_before callbacks header lines n k head fine within low some =
     at_all (λ j. reason_at callbacks (header ∷ lines) j ≡ None) k (header_fine callbacks header lines head)
@@ -63,7 +71,7 @@ fine_before callbacks header lines n k head fine within low some =
     ∙ fine j (omega arith))
 
 module _ (callbacks : ℕ) (header : List ℕ) (lines : List (List ℕ)) (n : ℕ) (past : Past) (types : List ObjectType) (commands : List Command)
-    (head : is_header header ≡ true) (read : IsReadTo callbacks lines n past types commands) (end : length lines ≤ n) where
+    (head : is_header header ≡ true) (read : IsReadTo (version_of header) callbacks lines n past types commands) (end : length lines ≤ n) where
   -- a blank line at the end
   fine_blank : (j : ℕ) → j < length lines → past.last ≤ j + 1 → reason_at callbacks (header ∷ lines) (suc j) ≡ None
   fine_blank j low late =
@@ -176,15 +184,15 @@ module _ (callbacks : ℕ) (bytes header : List ℕ) (lines : List (List ℕ)) (
     (small : length bytes ≤ 16777216) where
   -- a line with a reason
   faulty_line : (more : List (List ℕ)) (n : ℕ) (line : List ℕ) (past : Past) (types : List ObjectType) (commands : List Command)
-      (words : List (List ℕ)) (why : Reason) (reason : ℕ) → IsReadTo callbacks lines n past types commands → drop n lines ≡ line ∷ more
+      (words : List (List ℕ)) (why : Reason) (reason : ℕ) → IsReadTo (version_of header) callbacks lines n past types commands → drop n lines ≡ line ∷ more
       → words_of line ≡ words → is_blank line ≡ false → reason_after callbacks past words ≡ Some why → reason ≡ number_of why
       → length (lines_of bytes) ≤ 1000000 → IsFaultyLine callbacks bytes (fault_on past.lines reason)
   faulty_line more n line past types commands words why reason read e ws some told number few =
       let low : n < length lines = next_there lines more n line e in
       let at : get_or lines n [] ≡ line = next_is lines more n line e in
       let blank : is_blank (get_or lines n []) ≡ false = ap is_blank at ∙ some in
-      let here : judged callbacks (take n lines) (get_or lines n []) ≡ Some why =
-      judged_is callbacks (take n lines) words (get_or lines n []) past types commands read.say blank (ap words_of at ∙ ws) ∙ told in
+      let here : judged (version_of header) callbacks (take n lines) (get_or lines n []) ≡ Some why =
+      judged_is (version_of header) callbacks (take n lines) words (get_or lines n []) past types commands read.version_is read.say blank (ap words_of at ∙ ws) ∙ told in
       record {
         limits = in_limits bytes small few;
         place = suc n;
@@ -201,7 +209,7 @@ module _ (callbacks : ℕ) (bytes header : List ℕ) (lines : List (List ℕ)) (
       }
 
   pub line_stop : (more : List (List ℕ)) (n : ℕ) (line : List ℕ) (past : Past) (types : List ObjectType) (commands : List Command)
-      (words : List (List ℕ)) (reason total : ℕ) (fault : ScriptFault) → IsReadTo callbacks lines n past types commands → drop n lines ≡ line ∷ more
+      (words : List (List ℕ)) (reason total : ℕ) (fault : ScriptFault) → IsReadTo (version_of header) callbacks lines n past types commands → drop n lines ≡ line ∷ more
       → words_of line ≡ words → is_blank line ≡ false → IsReasonOf (reason_after callbacks past words) reason
       → total ≡ past.lines + length (line ∷ more) → fault ≡ fault_with total past.lines reason → IsFaultOf callbacks bytes fault
   line_stop more n line past types commands words reason total fault read e ws some (inl none) counted is =
@@ -214,7 +222,7 @@ module _ (callbacks : ℕ) (bytes header : List ℕ) (lines : List (List ℕ)) (
       (faulty_line more n line past types commands words why reason read e ws some told number)
 
   -- the threads aren't at rest after the last line with words
-  section_line : (n : ℕ) (past : Past) (types : List ObjectType) (commands : List Command) → IsReadTo callbacks lines n past types commands
+  section_line : (n : ℕ) (past : Past) (types : List ObjectType) (commands : List Command) → IsReadTo (version_of header) callbacks lines n past types commands
       → length lines ≤ n → length (lines_of bytes) ≤ 1000000 → are_at_rest (threads_of_stage past.stage) ≡ false
       → (k : ℕ) → past.last ≡ k + 2 → k < n → is_blank (get_or lines k []) ≡ false
       → threads_after (threads_of (take k lines)) (words_of (get_or lines k [])) ≡ threads_of_stage past.stage
@@ -238,7 +246,7 @@ module _ (callbacks : ℕ) (bytes header : List ℕ) (lines : List (List ℕ)) (
         };
       }
 
-  pub section_stop : (n : ℕ) (past : Past) (types : List ObjectType) (commands : List Command) → IsReadTo callbacks lines n past types commands
+  pub section_stop : (n : ℕ) (past : Past) (types : List ObjectType) (commands : List Command) → IsReadTo (version_of header) callbacks lines n past types commands
       → drop n lines ≡ [] → past.lines ≤ 1000000 → are_at_rest (threads_of_stage past.stage) ≡ false
       → IsFaultOf callbacks bytes (record { line = past.last; reason = 7 })
   section_stop n past types commands read none few busy =
@@ -249,7 +257,7 @@ module _ (callbacks : ℕ) (bytes header : List ℕ) (lines : List (List ℕ)) (
         | inr found ↦ told callbacks bytes (record { line = past.last; reason = 7 }) (section_line n past types commands read end low busy found.0 found.1 found.2 found.3 found.4)
       ]
 
-  pub all_read : (n : ℕ) (kept : Kept) → IsReadTo callbacks lines n kept.past kept.types.items kept.commands.items
+  pub all_read : (n : ℕ) (kept : Kept) → IsReadTo (version_of header) callbacks lines n kept.past kept.types.items kept.commands.items
       → drop n lines ≡ [] → kept.past.lines ≤ 1000000 → are_at_rest (threads_of_stage kept.past.stage) ≡ true → IsWholeScript callbacks bytes kept
   all_read n kept read none few rest =
       let end : length lines ≤ n = omega (arith, length-drop n lines, ap length none) in

@@ -10,7 +10,7 @@ use Rattle.gc_graph.specs.Words.{is_text}
 use Rattle.gc_graph.specs.Forms.{Place, Row, rows, gc_rows, at_rows, row_named, places_of, plain_form, gc_form, at_form, form_after_gc, form_after_at, form_of, threads_command}
 use Rattle.gc_graph.specs.Forms.Place.{Either}
 use Rattle.gc_graph.specs.Forms.Form.{Known}
-use Rattle.gc_graph.specs.Reasons.{Reason, Bounds, all_say, rest_of, first_is, has_unknown_word, command_by, command_of_words, reason_of_words}
+use Rattle.gc_graph.specs.Reasons.{Reason, Bounds, all_say, rest_of, first_is, has_unknown_word, command_by, command_of_words, reason_of_command}
 use Rattle.gc_graph.specs.Reasons.Reason.{UnknownWord}
 use Rattle.gc_graph.specs.Script.{is_order, is_go, is_join}
 use Rattle.command_text.specs.PlainForms.{form_of_plain}
@@ -183,7 +183,7 @@ known_unless true rest e = absurd (true≢false (ap is_some e))
 known_unless false rest e = refl
 
 threads_second : (bounds : Bounds) (second : List ℕ) (more : List (List ℕ))
-    → reason_of_words bounds (codes "threads" ∷ second ∷ more) ≡ None → GoesOrJoins second
+    → reason_of_command bounds (codes "threads" ∷ second ∷ more) ≡ None → GoesOrJoins second
 threads_second bounds second more fine =
     let words : List (List ℕ) = codes "threads" ∷ second ∷ more in
     let known : has_unknown_word (form_of words) words ≡ false = known_unless (has_unknown_word (form_of words) words) _ fine in
@@ -212,7 +212,7 @@ threads_place second more c (inr join) e =
     subst (λ w. HasPlace (codes "threads" ∷ w ∷ more) c) (sym is)
     (subst (HasPlace (codes "threads" ∷ codes "join" ∷ more)) command (record { order = refl; go = refl; join = refl }))
 
-after_threads : (bounds : Bounds) (rest : List (List ℕ)) (c : Command) → reason_of_words bounds (codes "threads" ∷ rest) ≡ None
+after_threads : (bounds : Bounds) (rest : List (List ℕ)) (c : Command) → reason_of_command bounds (codes "threads" ∷ rest) ≡ None
     → command_of_words (codes "threads" ∷ rest) ≡ Some c → HasPlace (codes "threads" ∷ rest) c
 after_threads bounds [] c fine e = nothing c e
 after_threads bounds (second ∷ more) c fine e =
@@ -233,7 +233,7 @@ as_text : (first text : List ℕ) (rest : List (List ℕ)) → is_text first tex
 as_text first text rest is = ap (λ w. w ∷ rest) ((bytes_decides first text).0 is)
 
 by_first : (bounds : Bounds) (first : List ℕ) (rest : List (List ℕ)) (c : Command) → is_text first (codes "type") ≡ false
-    → reason_of_words bounds (first ∷ rest) ≡ None → command_of_words (first ∷ rest) ≡ Some c → HasPlace (first ∷ rest) c
+    → reason_of_command bounds (first ∷ rest) ≡ None → command_of_words (first ∷ rest) ≡ Some c → HasPlace (first ∷ rest) c
 by_first bounds first rest c type fine e =
     elim (cases_Bool (is_text first (codes "gc"))) [
       | inl gc ↦ subst (λ ws. HasPlace ws c) (sym (as_text first (codes "gc") rest gc))
@@ -245,15 +245,15 @@ by_first bounds first rest c type fine e =
           | inl threads ↦
               (let is = as_text first (codes "threads") rest threads in
               subst (λ ws. HasPlace ws c) (sym is)
-              (after_threads bounds rest c (sym (ap (reason_of_words bounds) is) ∙ fine) (sym (ap command_of_words is) ∙ e)))
+              (after_threads bounds rest c (sym (ap (reason_of_command bounds) is) ∙ fine) (sym (ap command_of_words is) ∙ e)))
           | inr no_threads ↦ other_place first rest false c no_at no_threads
               (plain_row first (length rest) (first ∷ rest) c (row_named first rows) refl no_threads
-              (sym (ap (λ form. command_by form (first ∷ rest)) (form_of_plain first rest type no_gc no_at)) ∙ e))
+              (sym (ap (λ form. command_by form (first ∷ rest)) (form_of_plain first rest no_gc no_at)) ∙ e))
         ]
       ]
     ]
 
 pub has_place : (bounds : Bounds) (words : List (List ℕ)) (c : Command) → first_is (codes "type") words ≡ false
-    → reason_of_words bounds words ≡ None → command_of_words words ≡ Some c → HasPlace words c
+    → reason_of_command bounds words ≡ None → command_of_words words ≡ Some c → HasPlace words c
 has_place bounds [] c type fine e = nothing c e
 has_place bounds (first ∷ rest) c type fine e = by_first bounds first rest c type fine e

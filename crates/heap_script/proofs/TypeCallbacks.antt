@@ -1,15 +1,17 @@
--- The callbacks of a type line, one after the other.
-use Rattle.std.proofs.Common.{◌≡◌, ℕ, ◌<◌, ◌≤◌, ◌==◌, ◌&&◌, ◌||◌, Bool, true, false, not, cond, Option, Some, None, List, [], ◌∷◌, ◌++◌, length, drop, map, refl, sym, ap, ◌∙◌, subst, inl, inr, ◌⊎◌, arith}
+-- The callbacks of a list, one after the other.
+use Rattle.std.proofs.Common.{◌≡◌, ℕ, ◌<◌, ◌≤◌, ◌==◌, ◌&&◌, ◌||◌, Bool, true, false, not, cond, Some, None, List, [], ◌∷◌, ◌++◌, length, drop, map, refl, sym, ap, ◌∙◌, subst, inl, inr, arith}
 use Rattle.std.specs.Prelude.{codes, nat_lt, nat_le, unwrap_or, is_some}
 use Rattle.std.specs.List.{list_all, list_any}
-use Rattle.std.proofs.lemmas.Bool.{true≢false, cases_Bool, cond-true, cond-false, and_from, and_right, and_parts, and_cases, or_cases, or_parts, or_from, or_left, or_right, not_from_true, not_from_false, ltb-true, ltb-false, lt-ltb, le-ltb, le-leb, eq-eqb, eqb-true, not-true}
-use Rattle.std.proofs.lemmas.List.{length_push, map_push, length-map}
+use Rattle.std.proofs.lemmas.Bool.{true≢false, cases_Bool, cond-true, cond-false, and_from, and_left, and_right, and_parts, and_cases, or_cases, or_parts, or_from, or_left, or_right, not_from_true, not_from_false, ltb-true, ltb-false, lt-ltb, le-ltb, le-leb, eq-eqb, ne_eqb}
+use Rattle.std.proofs.lemmas.List.{length_push, map_push, length-map, append-nil}
 use Rattle.std.proofs.lemmas.List.Folds.{list_all-append, list_any-append}
 use Rattle.gc_graph.specs.Words.{is_text, is_number, value_after}
-use Rattle.gc_graph.specs.Reasons.{Reason, Bounds, value_of, are_letters, is_beyond}
-use Rattle.gc_graph.specs.Reasons.Reason.{UnknownWord, BadNumber, Count, Range}
-use Rattle.heap_script.specs.Past.{IsReasonOf}
-use Rattle.heap_script.specs.TypeLines.{AreCallbacks, are_over, is_over, or_range, reason_of_callbacks, reason_of_type}
+use Rattle.gc_graph.specs.Forms.{before_weak, from_weak}
+use Rattle.gc_graph.specs.Reasons.{value_of, is_beyond}
+use Rattle.line_words.specs.Cursor.{line_words, lines_after, IsLineEnd}
+use Rattle.heap_script.specs.declared.type_lines.Callbacks.{Callbacks}
+use Rattle.heap_script.specs.TypeLines.{AreCallbacks, AreNumbers, are_over, ended_by, left_by}
+use Rattle.heap_script.proofs.WeakWords.{numbers_ended, numbers_stopped, no_number}
 
 -- ---- a word that was read as a number
 
@@ -18,6 +20,13 @@ pub number_is : (value : ℕ) (word : List ℕ) → Some value ≡ cond (is_numb
 number_is value word e = elim (cases_Bool (is_number word)) [
   | inl so ↦ (so, ap (λ o. unwrap_or o 0) (e ∙ cond-true (is_number word) (Some (value_after 0 word)) None so))
   | inr off ↦ absurd (true≢false (ap is_some (e ∙ cond-false (is_number word) (Some (value_after 0 word)) None off)))
+]
+
+-- or as none
+number_not : (word : List ℕ) → None ≡ cond (is_number word) (Some (value_after 0 word)) None → is_number word ≡ false
+number_not word e = elim (cases_Bool (is_number word)) [
+  | inl so ↦ absurd (true≢false (sym (ap is_some (e ∙ cond-true (is_number word) (Some (value_after 0 word)) None so))))
+  | inr off ↦ off
 ]
 
 -- ---- one word more
@@ -114,96 +123,77 @@ one_over callbacks taken word numbers over value called number past =
       numbers_are = λ off. absurd (true≢false off);
     }
 
--- ---- what follows the letters
+-- there are none exactly where none is kept and none is over
+none_read : (callbacks : ℕ) (taken : List (List ℕ)) (numbers : List ℕ) (over : Bool) → AreCallbacks callbacks taken numbers over
+    → (length numbers == 0 && not over) ≡ (length taken == 0)
+none_read callbacks [] numbers over called =
+    let off : over ≡ false = called.over_is in
+    let none : length numbers ≡ 0 = ap length (called.numbers_are off) in
+    and_from (length numbers == 0) (not over) (eq-eqb (length numbers) 0 none) (ap not off)
+none_read callbacks (word ∷ words) numbers over called = elim (cases_Bool over) [
+  | inl so ↦ and_right (length numbers == 0) (not over) (ap not so) ∙ sym (ne_eqb (length (word ∷ words)) 0 (λ e. omega (arith, e)))
+  | inr off ↦
+      (let some : length numbers ≡ length (word ∷ words) = ap length (called.numbers_are off) ∙ length-map (word ∷ words) value_of in
+      and_left (length numbers == 0) (not over) (ne_eqb (length numbers) 0 (λ e. omega (arith, some, e)))
+      ∙ sym (ne_eqb (length (word ∷ words)) 0 (λ e. omega (arith, e))))
+]
 
-abbrev after_pre : List (List ℕ) → Option Reason
-after_pre numbers = cond (not (list_all is_number numbers)) (Some BadNumber) (cond (length numbers == 0) (Some Count) None)
+-- ---- where a list ends
 
-abbrev is_pre : List ℕ → Bool
-is_pre word = is_text word (codes "pre")
+-- at the end of the line
+pub read_to_end : (callbacks : ℕ) (stops : Bool) (bytes : List ℕ) (from at : ℕ) (taken : List (List ℕ)) (numbers : List ℕ) (over : Bool)
+    (list : Callbacks) → line_words (drop from bytes) ≡ taken ++ line_words (drop at bytes) → line_words (drop at bytes) ≡ []
+    → IsLineEnd bytes from list.end → AreCallbacks callbacks taken numbers over → list.numbers.items ≡ numbers → list.over ≡ over
+    → list.bare ≡ (length numbers == 0 && not over) → list.weak ≡ false → AreNumbers callbacks stops bytes from list
+read_to_end callbacks stops bytes from at taken numbers over list whole none ends called items over_is bare weak =
+    let words : line_words (drop from bytes) ≡ taken = whole ∙ ap (λ (ws : List (List ℕ)). taken ++ ws) none ∙ append-nil taken in
+    let parts = numbers_ended stops taken called.plain in
+    let ended : ended_by stops (line_words (drop from bytes)) ≡ taken = ap (ended_by stops) words ∙ parts.0 in
+    record {
+      called = subst (λ ws. AreCallbacks callbacks ws list.numbers.items list.over) (sym ended)
+          (subst (λ ns. AreCallbacks callbacks taken ns list.over) (sym items) (subst (λ b. AreCallbacks callbacks taken numbers b) (sym over_is) called));
+      bare = bare ∙ none_read callbacks taken numbers over called ∙ ap (λ (ws : List (List ℕ)). length ws == 0) (sym ended);
+      ended = record {
+        line = λ e. (ap (left_by stops) words ∙ parts.1, ends);
+        weak = λ e. absurd (true≢false (sym e ∙ weak));
+        order = ends.order;
+        within = ends.within;
+        same = ends.same;
+      };
+    }
 
-with_pre : (words rest : List (List ℕ)) (pre : List ℕ) → words ≡ pre ∷ rest → is_pre pre ≡ true → reason_of_callbacks words ≡ after_pre rest
-with_pre words rest pre are is =
-    ap reason_of_callbacks are ∙ cond-false (not (is_pre pre)) (Some UnknownWord) (after_pre rest) (not_from_true (is_pre pre) is)
+-- at the word `weak`
+pub read_to_weak : (callbacks : ℕ) (stops : Bool) (bytes : List ℕ) (from at : ℕ) (taken : List (List ℕ)) (word numbers : List ℕ) (over : Bool)
+    (list : Callbacks) → line_words (drop from bytes) ≡ taken ++ line_words (drop at bytes)
+    → line_words (drop at bytes) ≡ word ∷ line_words (drop list.end bytes) → (stops && is_text word (codes "weak")) ≡ true
+    → from ≤ list.end → list.end ≤ length bytes → lines_after (drop from bytes) ≡ lines_after (drop list.end bytes)
+    → AreCallbacks callbacks taken numbers over → list.numbers.items ≡ numbers → list.over ≡ over
+    → list.bare ≡ (length numbers == 0 && not over) → list.weak ≡ true → AreNumbers callbacks stops bytes from list
+read_to_weak callbacks stops bytes from at taken word numbers over list whole next is order within same called items over_is bare weak =
+    let rest : List (List ℕ) = line_words (drop list.end bytes) in
+    let words : line_words (drop from bytes) ≡ taken ++ word ∷ rest = whole ∙ ap (λ (ws : List (List ℕ)). taken ++ ws) next in
+    let both = and_parts stops (is_text word (codes "weak")) is in
+    let parts = numbers_stopped taken rest word called.plain both.1 in
+    let ended : ended_by stops (line_words (drop from bytes)) ≡ taken =
+    ap (λ b. ended_by b (line_words (drop from bytes))) both.0 ∙ ap before_weak words ∙ parts.0 in
+    record {
+      called = subst (λ ws. AreCallbacks callbacks ws list.numbers.items list.over) (sym ended)
+          (subst (λ ns. AreCallbacks callbacks taken ns list.over) (sym items) (subst (λ b. AreCallbacks callbacks taken numbers b) (sym over_is) called));
+      bare = bare ∙ none_read callbacks taken numbers over called ∙ ap (λ (ws : List (List ℕ)). length ws == 0) (sym ended);
+      ended = record {
+        line = λ e. absurd (true≢false (sym weak ∙ e));
+        weak = λ e. ap (λ b. left_by b (line_words (drop from bytes))) both.0 ∙ ap from_weak words ∙ parts.1;
+        order = order;
+        within = within;
+        same = same;
+      };
+    }
 
-pub wrong_pre : (words rest : List (List ℕ)) (pre : List ℕ) → words ≡ pre ∷ rest → is_pre pre ≡ false → IsReasonOf (reason_of_callbacks words) 2
-wrong_pre words rest pre are wrong = inr (
-  UnknownWord,
-  refl,
-  ap reason_of_callbacks are ∙ cond-true (not (is_pre pre)) (Some UnknownWord) (after_pre rest) (not_from_false (is_pre pre) wrong),
-)
-
-pub bad_numbers : (words rest : List (List ℕ)) (pre : List ℕ) (reason : ℕ) → words ≡ pre ∷ rest → is_pre pre ≡ true
-    → (reason ≡ 0) ⊎ ((reason ≡ 3) × (list_all is_number rest ≡ false)) → IsReasonOf (reason_of_callbacks words) reason
-bad_numbers words rest pre reason are is (inl none) = inl none
-bad_numbers words rest pre reason are is (inr bad) = inr (
-  BadNumber,
-  bad.0,
-  with_pre words rest pre are is
-      ∙ cond-true (not (list_all is_number rest)) (Some BadNumber) (cond (length rest == 0) (Some Count) None) (not_from_false (list_all is_number rest) bad.1),
-)
-
-plain_numbers : (words rest : List (List ℕ)) (pre : List ℕ) → words ≡ pre ∷ rest → is_pre pre ≡ true → list_all is_number rest ≡ true
-    → reason_of_callbacks words ≡ cond (length rest == 0) (Some Count) None
-plain_numbers words rest pre are is plain =
-    with_pre words rest pre are is
-    ∙ cond-false (not (list_all is_number rest)) (Some BadNumber) (cond (length rest == 0) (Some Count) None) (not_from_true (list_all is_number rest) plain)
-
-pub no_numbers : (callbacks : ℕ) (words rest : List (List ℕ)) (pre numbers : List ℕ) (over : Bool) → words ≡ pre ∷ rest → is_pre pre ≡ true
-    → AreCallbacks callbacks rest numbers over → (length numbers == 0 && not over) ≡ true → IsReasonOf (reason_of_callbacks words) 4
-no_numbers callbacks words rest pre numbers over are is called none =
-    let parts = and_parts (length numbers == 0) (not over) none in
-    inr (
-      Count,
-      refl,
-      plain_numbers words rest pre are is called.plain
-          ∙ cond-true (length rest == 0) (Some Count) None
-          (eq-eqb (length rest) 0 (omega (
-            arith,
-            eqb-true (length numbers) 0 parts.0,
-            ap length (called.numbers_are (not-true over parts.1)),
-            length-map rest value_of,
-          ))),
-    )
-
--- ---- the whole line
-
-pub no_letters : (bounds : Bounds) (words : List (List ℕ)) → words ≡ [] → IsReasonOf (reason_of_type bounds words) 4
-no_letters bounds words are = inr (Count, refl, ap (reason_of_type bounds) are)
-
-pub wrong_letters : (bounds : Bounds) (words more : List (List ℕ)) (letters : List ℕ) → words ≡ letters ∷ more → are_letters letters ≡ false
-    → IsReasonOf (reason_of_type bounds words) 2
-wrong_letters bounds words more letters are wrong = inr (
-  UnknownWord,
-  refl,
-  ap (reason_of_type bounds) are
-      ∙ cond-true (not (are_letters letters)) (Some UnknownWord) (or_range (is_over bounds letters more) (reason_of_callbacks more))
-      (not_from_false (are_letters letters) wrong),
-)
-
-with_letters : (bounds : Bounds) (words more : List (List ℕ)) (letters : List ℕ) → words ≡ letters ∷ more → are_letters letters ≡ true
-    → reason_of_type bounds words ≡ or_range (is_over bounds letters more) (reason_of_callbacks more)
-with_letters bounds words more letters are is =
-    ap (reason_of_type bounds) are
-    ∙ cond-false (not (are_letters letters)) (Some UnknownWord) (or_range (is_over bounds letters more) (reason_of_callbacks more))
-    (not_from_true (are_letters letters) is)
-
--- over is told by the parts
-ranged : (bounds : Bounds) (words more : List (List ℕ)) (letters : List ℕ) (called over : Bool) → words ≡ letters ∷ more
-    → are_letters letters ≡ true → reason_of_callbacks more ≡ None → called ≡ are_over bounds.callbacks (drop 1 more)
-    → over ≡ (nat_lt 64 (length letters) || (called || nat_le 16383 bounds.types))
-    → reason_of_type bounds words ≡ cond over (Some Range) None
-ranged bounds words more letters called over are is fine called_is over_is =
-    with_letters bounds words more letters are is
-    ∙ ap (or_range (is_over bounds letters more)) fine
-    ∙ ap (λ (b : Bool). cond (nat_lt 64 (length letters) || (b || nat_le 16383 bounds.types)) (Some Range) None) (sym called_is)
-    ∙ ap (λ (b : Bool). cond b (Some Range) None) (sym over_is)
-
-pub too_much : (bounds : Bounds) (words more : List (List ℕ)) (letters : List ℕ) (called over : Bool) → words ≡ letters ∷ more
-    → are_letters letters ≡ true → reason_of_callbacks more ≡ None → called ≡ are_over bounds.callbacks (drop 1 more)
-    → over ≡ (nat_lt 64 (length letters) || (called || nat_le 16383 bounds.types)) → over ≡ true → IsReasonOf (reason_of_type bounds words) 5
-too_much bounds words more letters called over are is fine called_is over_is so = inr (
-  Range,
-  refl,
-  ranged bounds words more letters called over are is fine called_is over_is ∙ cond-true over (Some Range) None so,
-)
+-- at a word that is none of both
+pub read_to_fault : (callbacks : ℕ) (stops : Bool) (bytes : List ℕ) (from at end : ℕ) (taken : List (List ℕ)) (word numbers : List ℕ) (over : Bool)
+    → line_words (drop from bytes) ≡ taken ++ line_words (drop at bytes) → line_words (drop at bytes) ≡ word ∷ line_words (drop end bytes)
+    → AreCallbacks callbacks taken numbers over → None ≡ cond (is_number word) (Some (value_after 0 word)) None
+    → (stops && is_text word (codes "weak")) ≡ false → list_all is_number (ended_by stops (line_words (drop from bytes))) ≡ false
+read_to_fault callbacks stops bytes from at end taken word numbers over whole next called none other =
+    ap (λ ws. list_all is_number (ended_by stops ws)) (whole ∙ ap (λ (ws : List (List ℕ)). taken ++ ws) next)
+    ∙ no_number stops taken (line_words (drop end bytes)) word called.plain (number_not word none) other

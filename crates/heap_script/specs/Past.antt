@@ -48,9 +48,9 @@ breaks stage command = false
 
 -- ---- one more line
 
--- only the header stands there
-abbrev pub past_header : Past
-past_header = record { lines = 1; last = 1; types = 0; bare = true; stage = S.AtRest }
+-- only the header stands there, which names this version
+abbrev pub past_header : ℕ → Past
+past_header version = record { version = version; lines = 1; last = 1; types = 0; bare = true; stage = S.AtRest }
 
 -- a line without words more
 abbrev pub with_blank : Past → Past
@@ -92,7 +92,7 @@ reason_with past words None =
 
 -- the lowest reason of a line with these words, where others with words follow
 abbrev pub reason_after : ℕ → Past → List (List ℕ) → Option Reason
-reason_after callbacks past words = reason_with past words (reason_of_words (bounds_in callbacks past) words)
+reason_after callbacks past words = reason_with past words (reason_of_words past.version (bounds_in callbacks past) words)
 
 -- memory was wanting, or this is the number of the reason
 abbrev pub IsReasonOf : Option Reason → ℕ → Type 0

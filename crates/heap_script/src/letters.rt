@@ -1,7 +1,8 @@
 // The letters of a type line.
 
-ghost use Rattle.std.specs.Prelude.{◌≡◌, map, IfOk};
+ghost use Rattle.std.specs.Prelude.{◌≡◌, ◌≤◌, length, map, IfOk};
 ghost use Rattle.std.specs.List.{list_all};
+ghost use Rattle.gc_graph.specs.Fields as fields;
 ghost use Rattle.gc_graph.specs.Reasons as spec;
 
 use super::words::is_text;
@@ -52,4 +53,23 @@ fn kind_of_letter(letter: u8) -> Kind
         b'E' => Kind::Pair,
         _ => Kind::Plain,
     }
+}
+
+/// How many words fields of these kinds have.
+pub(crate) fn field_words(kinds: &[Kind]) -> u32
+    requires { length kinds.now ≤ 64 }
+    ensures { result ≡ fields.field_words kinds.now }
+{
+    let mut words = 0;
+    for kind in kinds {
+        words += words_of(*kind);
+    }
+    words
+}
+
+fn words_of(kind: Kind) -> u32
+    ensures value { result ≡ fields.words_of_kind kind }
+    ensures few { result ≤ 2 }
+{
+    if kind == Kind::Pair { 2 } else { 1 }
 }

@@ -5,9 +5,17 @@ ghost use Rattle.std.specs.Prelude.{MatchOption};
 ghost use Rattle.gc_graph.specs.Script.{is_header};
 ghost use Rattle.gc_graph.specs.Words.{lines_of};
 ghost use Rattle.line_words.specs.Cursor.{first_line, lines_after, IsLineEnd};
+ghost use Rattle.heap_script.specs.Headers.{IsHeader, version_by_name};
 
 use super::words::is_text;
 use line_words::next_word;
+
+/// The version that the first line names, and where it ends.
+#[derive(Clone, Copy, Drop)]
+pub(crate) struct Header {
+    pub(crate) version: u8,
+    pub(crate) end: usize,
+}
 
 /// Where the line after the one that ends there begins.
 pub(crate) fn next_line(bytes: &[u8], end: usize) -> usize
@@ -21,21 +29,39 @@ pub(crate) fn next_line(bytes: &[u8], end: usize) -> usize
     if end < bytes.len() { end + 1 } else { end }
 }
 
-/// Where the first line ends, if it is the header.
-pub(crate) fn header_end(bytes: &[u8]) -> Option<usize>
+/// The header, if the first line is one.
+pub(crate) fn header_of(bytes: &[u8]) -> Option<Header>
     ensures { MatchOption result (is_header (first_line bytes.now) ≡ false)
-        (λ end. (is_header (first_line bytes.now) ≡ true) × IsLineEnd bytes.now 0 end) }
+        (λ header. IsHeader bytes.now header) }
 {
     let (name, after) = next_word(bytes, 0);
     if !is_text(&bytes[name..after], b"oilpan") {
         return None;
     }
-    let (version, end) = next_word(bytes, after);
-    if !is_text(&bytes[version..end], b"1") {
+    let (start, end) = next_word(bytes, after);
+    let version = version_named(&bytes[start..end]);
+    if version == 0 {
         return None;
     }
     let (more, end) = next_word(bytes, end);
-    if more < end { None } else { Some(end) }
+    if more < end {
+        None
+    } else {
+        Some(Header { version, end })
+    }
+}
+
+// The version with this name, or 0.
+fn version_named(word: &[u8]) -> u8
+    ensures { result ≡ version_by_name word.now }
+{
+    if is_text(word, b"1") {
+        1
+    } else if is_text(word, b"2") {
+        2
+    } else {
+        0
+    }
 }
 
 /// How many lines begin at `from` or later.

@@ -14,10 +14,12 @@ pub(crate) enum Stage {
     Going,
 }
 
-/// How many lines there are, the header among them, the number of the last one with words, how many
-/// types they declare, whether no command stands among them, and the stage of the threads.
+/// The version that the header names, how many lines there are, the header among them, the number of
+/// the last one with words, how many types they declare, whether no command stands among them, and the
+/// stage of the threads.
 #[derive(Clone, Copy, Drop)]
 pub(crate) struct Past {
+    pub(crate) version: u8,
     pub(crate) lines: u32,
     pub(crate) last: u32,
     pub(crate) types: u32,
@@ -26,10 +28,11 @@ pub(crate) struct Past {
 }
 
 impl Past {
-    pub(crate) fn new() -> Past
-        ensures { result ≡ spec.past_header }
+    pub(crate) fn new(version: u8) -> Past
+        ensures { result ≡ spec.past_header version }
     {
         Past {
+            version,
             lines: 1,
             last: 1,
             types: 0,

@@ -67,7 +67,7 @@ impl Script {
 /// | 2 | a word is none of those that may stand there |
 /// | 3 | a word is no number where one should be |
 /// | 4 | there are fewer or more words than the form has |
-/// | 5 | a number is out of its range, or there are too many letters, callbacks or types |
+/// | 5 | a number is out of its range, or there are too many letters, callbacks, words or types |
 /// | 6 | a type line comes after a command |
 /// | 7 | the threads' orders don't stand between each other as they should |
 /// | 8 | there are over 16,777,216 bytes or over 1,000,000 lines; the line is then 0 |

@@ -121,7 +121,7 @@ fn keep_type(
         (codes "type" ∷ line_words (drop from bytes.now)))) }
     ensures same { IfErr result (λ _. kept.new.past ≡ kept.old.past) }
 {
-    match read_type(alloc, bytes, from, kept.past.types, callbacks) {
+    match read_type(alloc, bytes, from, &kept.past, callbacks) {
         Ok(line) => {
             if !kept.past.bare {
                 return Err(ORDER);

@@ -2,13 +2,13 @@
 
 ghost use Rattle.std.specs.Prelude.{◌≡◌, ◌+◌, ◌<◌, ◌≤◌, ◌∷◌, true, length, drop, nat_lt};
 ghost use Rattle.std.specs.Prelude.{IfOk, IfErr};
-ghost use Rattle.gc_graph.specs.Script.{is_header};
+ghost use Rattle.gc_graph.specs.Script.{is_header, version_of};
 ghost use Rattle.gc_graph.specs.Words.{lines_of};
 ghost use Rattle.line_words.specs.Cursor.{first_line};
 ghost use Rattle.heap_script.specs.Reading.{IsWholeScript, fault_with};
 ghost use Rattle.heap_script.specs.Scripts.{IsFaultOf};
 
-use super::lines::{count_from, header_end, next_line};
+use super::lines::{count_from, header_of, next_line};
 use super::past::Past;
 use super::script::ScriptFault;
 use super::script_lines::{Kept, keep_line};
@@ -26,23 +26,36 @@ pub(crate) fn read_lines(alloc: Global, bytes: &[u8], callbacks: u32) -> Result<
     if bytes.len() > MOST_BYTES {
         return Err(too_long());
     }
-    match header_end(bytes) {
-        Some(end) => read_after(alloc, bytes, next_line(bytes, end), callbacks),
+    match header_of(bytes) {
+        Some(header) => read_after(
+            alloc,
+            bytes,
+            next_line(bytes, header.end),
+            header.version,
+            callbacks,
+        ),
         None => Err(fault_at(bytes, 0, 0, HEADER)),
     }
 }
 
-// Reads the lines after the header, which begin at `from`.
-fn read_after(alloc: Global, bytes: &[u8], from: usize, callbacks: u32) -> Result<Kept, ScriptFault>
+// Reads the lines after the header, which names this version. They begin at `from`.
+fn read_after(
+    alloc: Global,
+    bytes: &[u8],
+    from: usize,
+    version: u8,
+    callbacks: u32,
+) -> Result<Kept, ScriptFault>
     requires few { length bytes.now ≤ 16777216 }
     requires within { from ≤ length bytes.now }
     requires header { is_header (first_line bytes.now) ≡ true }
+    requires version { version_of (first_line bytes.now) ≡ version }
     requires lines { lines_of bytes.now ≡ first_line bytes.now ∷ lines_of (drop from bytes.now) }
     ensures whole { IfOk result (IsWholeScript callbacks bytes.now) }
     ensures fault { IfErr result (IsFaultOf callbacks bytes.now) }
 {
     let mut kept = Kept {
-        past: Past::new(),
+        past: Past::new(version),
         types: Vec::new(alloc),
         commands: Vec::new(alloc),
     };

@@ -64,7 +64,8 @@ fn add_line<B: TextBuffer>(text: &mut B, line: &Line)
             traced,
             walked,
         } => add_pause(text, kept, dead, crew, traced, walked),
-        Line::Prefinalise { k, c } => add_prefinalise(text, k, c),
+        Line::WeakCall { k, d } => add_run(text, b"weakcall ", k, d),
+        Line::Prefinalise { k, c } => add_run(text, b"prefinalise ", k, c),
         Line::Finalise { k } => add_named(text, b"finalise ", k),
         Line::Swept { c } => add_named(text, b"swept to ", c),
         Line::Objects { n, u, g } => add_totals(text, b"", n, u, g),
@@ -164,13 +165,16 @@ fn digit_of(walked: bool) -> &'static [u8]
     }
 }
 
-fn add_prefinalise<B: TextBuffer>(text: &mut B, k: u32, c: u32)
-    requires { 200 ≤ B.room text.old }
-    ensures items { B.held text.new ≡ B.held text.old ++ line_text (Line.Prefinalise k c) }
+// A callback that was run for a node.
+fn add_run<B: TextBuffer>(text: &mut B, name: &[u8], k: u32, callback: u32)
+    requires room { 200 ≤ B.room text.old }
+    requires short { length name.now ≤ 12 }
+    ensures items { B.held text.new ≡ B.held text.old
+        ++ (name.now ++ (decimal k ++ (codes " " ++ decimal callback))) }
     ensures room { B.room text.old ≤ B.room text.new + 200 }
 {
-    add_named(text, b"prefinalise ", k);
-    add_named(text, b" ", c);
+    add_named(text, name, k);
+    add_named(text, b" ", callback);
 }
 
 fn add_totals<B: TextBuffer>(text: &mut B, name: &[u8], n: u32, u: u32, g: u32)

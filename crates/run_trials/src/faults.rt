@@ -10,12 +10,18 @@ const SCRIPTS: &str = "\
 /|1 1
 /oilpan 1/|1 1
 oilpan/|1 1
-oilpan 2/|1 1
+oilpan 3/|1 1
+oilpan 02/|1 1
+oilpan 22/|1 1
 oilpan 1 1/|1 1
+oilpan 2 1/|1 1
+oilpan//2/|1 1
 oilpan 1\r/|1 1
 oilpan\t1/|1 1
   oilpan   1  |none
 oilpan 1//   /|none
+ oilpan  2 |none
+oilpan 2/type S/type - pre 0/new 0 1/|none
 oilpan 1/type S/new 0 0/set 0|4 4
 oilpan 1/type S/new 0 0/threads join|4 7
 oilpan 1/at 1 totals/threads go/set 0|4 4
@@ -35,6 +41,30 @@ oilpan 1/type SWEP pre 0/type |W|64|P-|3 2
 oilpan 1/type SWEP pre 0/type S pre| 0|16||none
 oilpan 1/type SWEP pre 0/type S pre| 0|16| 0|3 5
 oilpan 1/type SWEP pre 0/type S pre| 0|16| 0 x|3 3
+oilpan 1/type SW weak 0/|2 2
+oilpan 1/type SW weak/|2 2
+oilpan 1/type SW pre 0 weak 0/|2 3
+oilpan 1/type SW pre weak/|2 3
+oilpan 2/type SW weak/|2 4
+oilpan 2/stat/type SW weak/|3 4
+oilpan 2/stat/type SW weak 0/|3 6
+oilpan 2/type S weak| 0|16||none
+oilpan 2/type S weak| 0|16| 0|2 5
+oilpan 2/type S weak| 0|16| 0 x|2 3
+oilpan 2/type S pre| 0|16| weak 0|none
+oilpan 2/type S pre| 0|16| 0 weak 0|2 5
+oilpan 2/type S pre| 0|16| 0 weak|2 4
+oilpan 2/type S pre 0 weak| 0|16||none
+oilpan 2/type S pre 0 weak| 0|16| 0|2 5
+oilpan 2/type |P|64| weak 0|none
+oilpan 2/type |P|64|P weak 0|2 5
+oilpan 2/type |E|32| weak 0|none
+oilpan 2/type |E|31|PP weak 0|none
+oilpan 2/type P|E|32| weak 0|2 5
+oilpan 2/type |E|33| weak 0|2 5
+oilpan 2/type |E|33| weak|2 4
+oilpan 2/type |E|33| pre 0|none
+oilpan 2/type |E|64||none
 oilpan 1/type SWEP pre 0/drop |1|70000||3 3
 oilpan 1/type SWEP pre 0/|s|70000||3 2
 oilpan 1/foo/|/|999998||2 2
@@ -192,6 +222,67 @@ type - pre 0 4294967296|3 5
 #[test]
 fn lines_have_their_lowest_reason(rt: HostRuntime) {
     let wrong = first_wrong(rt.alloc(), "oilpan 1/type SWEP pre 0/", LINES);
+    assert_eq!(rt; wrong, None);
+}
+
+// A line of version 2, after one type and with one callback: where the lists of a type line end, and
+// each place where the line can be cut off.
+const WEAK_LINES: &str = "\
+type S|none
+type S pre 0|none
+type S weak 0|none
+type - weak 0 0|none
+type SWEP pre 0 weak 0|none
+type S  pre 0  0 weak  0 0 |none
+weak 0 0|none
+typ|3 2
+type|3 4
+type S p|3 2
+type S pr|3 2
+type S pre|3 4
+type S pre 0 w|3 3
+type S pre 0 we|3 3
+type S pre 0 wea|3 3
+type S pre 0 weak|3 4
+type S w|3 2
+type S we|3 2
+type S wea|3 2
+type S weak|3 4
+type S wea x|3 2
+type S weakk 0|3 2
+type S Weak 0|3 2
+type S - weak 0|3 2
+type S 0 weak 0|3 2
+type SX weak 0|3 2
+type X weak|3 2
+type weak 0|3 2
+type S pre 0 pre 0|3 3
+type S pre 0 weakk 0|3 3
+type S pre x weak 0|3 3
+type S pre 0 weak x|3 3
+type S pre weak x|3 3
+type S pre 9 weak -|3 3
+type S weak pre 0|3 3
+type S weak weak 0|3 3
+type S weak 0 weak 0|3 3
+type S weak 0 weak|3 3
+type S pre 0 weak weak|3 3
+type S weak x|3 3
+type S weak 00|3 3
+type S weak 18446744073709551616|3 3
+type S pre weak|3 4
+type S pre weak 0|3 4
+type S pre weak 9|3 4
+type S pre 9 weak|3 4
+type S weak 1|3 5
+type S pre 0 weak 1|3 5
+type S pre 1 weak 0|3 5
+type S weak 18446744073709551615|3 5
+";
+
+#[test]
+fn lists_of_callbacks_have_their_lowest_reason(rt: HostRuntime) {
+    let wrong = first_wrong(rt.alloc(), "oilpan 2/type SWEP pre 0/", WEAK_LINES);
     assert_eq!(rt; wrong, None);
 }
 

@@ -23,6 +23,7 @@ word 18446744073709551615
 started
 step traced 5 done
 step traced 6 more
+weakcall 4294967295 5
 prefinalise 3 4
 finalise 12
 swept to 90
@@ -52,8 +53,8 @@ entry 8 upgrade 8 9 null
 /// The line whose text has this place among the texts.
 fn line_at(place: u32) -> Line {
     match place {
-        0..=22 => answer_at(place),
-        23..=28 => totals_at(place),
+        0..=23 => answer_at(place),
+        24..=29 => totals_at(place),
         _ => threads_line_at(place),
     }
 }
@@ -77,22 +78,23 @@ fn answer_at(place: u32) -> Line {
         14 => Line::Started,
         15 => Line::Step { t: 5, done: true },
         16 => Line::Step { t: 6, done: false },
-        17 => Line::Prefinalise { k: 3, c: 4 },
-        18 => Line::Finalise { k: 12 },
-        19 => Line::Swept { c: 90 },
-        20 => Line::Queued,
-        21 => Line::Going { m: 2 },
+        17 => Line::WeakCall { k: u32::MAX, d: 5 },
+        18 => Line::Prefinalise { k: 3, c: 4 },
+        19 => Line::Finalise { k: 12 },
+        20 => Line::Swept { c: 90 },
+        21 => Line::Queued,
+        22 => Line::Going { m: 2 },
         _ => Line::Joined { m: 8 },
     }
 }
 
 fn totals_at(place: u32) -> Line {
     match place {
-        23 => pause(1, 2, 0, 3, true),
-        24 => pause(9, 0, 4, 5, false),
-        25 => Line::Objects { n: 4, u: 5, g: 6 },
-        26 => Line::End { n: 4, u: 5, g: 6 },
-        27 => Line::ReplyTotals {
+        24 => pause(1, 2, 0, 3, true),
+        25 => pause(9, 0, 4, 5, false),
+        26 => Line::Objects { n: 4, u: 5, g: 6 },
+        27 => Line::End { n: 4, u: 5, g: 6 },
+        28 => Line::ReplyTotals {
             j: 8,
             o: 1,
             n: 2,
@@ -112,17 +114,17 @@ fn totals_at(place: u32) -> Line {
 
 fn threads_line_at(place: u32) -> Line {
     match place {
-        29 => reply(1, Reply::Done),
-        30 => reply(2, Reply::Node(10)),
-        31 => reply(3, Reply::Null),
-        32 => reply(8, Reply::NoMemory),
-        33 => entry(0, Op::Export { slot: 31, node: 7 }, Reply::Done),
-        34 => entry(0, Op::Import { slot: 5 }, Reply::Node(7)),
-        35 => entry(0, Op::Start, Reply::Done),
-        36 => entry(0, Op::Pause { cleared: 3 }, Reply::Done),
-        37 => entry(1, Op::Copy { from: 2, into: 3 }, Reply::Done),
-        38 => entry(2, Op::Clear { slot: 4 }, Reply::Done),
-        39 => entry(3, Op::Weaken { slot: 6 }, Reply::Done),
+        30 => reply(1, Reply::Done),
+        31 => reply(2, Reply::Node(10)),
+        32 => reply(3, Reply::Null),
+        33 => reply(8, Reply::NoMemory),
+        34 => entry(0, Op::Export { slot: 31, node: 7 }, Reply::Done),
+        35 => entry(0, Op::Import { slot: 5 }, Reply::Node(7)),
+        36 => entry(0, Op::Start, Reply::Done),
+        37 => entry(0, Op::Pause { cleared: 3 }, Reply::Done),
+        38 => entry(1, Op::Copy { from: 2, into: 3 }, Reply::Done),
+        39 => entry(2, Op::Clear { slot: 4 }, Reply::Done),
+        40 => entry(3, Op::Weaken { slot: 6 }, Reply::Done),
         _ => entry(8, Op::Upgrade { from: 8, into: 9 }, Reply::Null),
     }
 }

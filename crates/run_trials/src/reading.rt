@@ -5,16 +5,18 @@ use heap_script::{ListSource, Script, read_script, read_whole};
 use std::alloc::{AllocError, Global};
 use std::fmt::Write;
 
-const SCRIPT: &str = "oilpan 1\n\ntype S\n\ntype - pre 0 0\ntype SWEP\nnew 0 0\nset  0 3 255\n\
+const SCRIPT: &str = "oilpan 2\n\ntype S\n\ntype - pre 0 0\ntype SWEP weak 0\n\
+type P pre 0 weak 0 0\nnew 0 0\nset  0 3 255\n\
  set 0 67108863 -\npair 1 2 3 4\npair 1 2 - -\nput 1 2 18446744073709551615\npush# 7\n\
 gc now conservative\nsweep 3\nat 8 copy 31 0\nthreads go\nthreads join\nnew 1 2 33554432";
 
-// The fields of each type and its callbacks; then each command with four numbers, as `said_by` has
-// them.
+// The fields of each type, its callbacks and its weak ones; then each command with four numbers, as
+// `said_by` has them.
 const SAID: &str = "\
-type Strong
-type 0 0
-type Strong Weak Pair Plain
+type Strong weak
+type 0 0 weak
+type Strong Weak Pair Plain weak 0
+type Plain 0 weak 0 0
 New 0 0 0 0
 Set 0 3 255 0
 SetNull 0 67108863 0 0
@@ -108,6 +110,8 @@ fn add_types(text: &mut String, script: &Script) -> Result<(), AllocError> {
         text.push_str("type")?;
         add_fields(text, decl.fields())?;
         add_callbacks(text, decl.callbacks())?;
+        text.push_str(" weak")?;
+        add_callbacks(text, decl.weak())?;
         text.push_str("\n")?;
     }
     Ok(())

@@ -6,7 +6,7 @@ use Rattle.heap_script.proofs.script_lines.keep_command.Goals as goal
 pub returns-in-Err-clause-fault : goal.returns-in-Err-clause-fault
 returns-in-Err-clause-fault c =
     words_faulty c.args.callbacks c.args.kept.now.past (words_from c.args.bytes.now c.args.start c.args.end) c.in-Err.reason
-    (rw c.in-Err.is at c.read_command-line.ensures.fault)
+    c.requires.plain (rw c.in-Err.is at c.read_command-line.ensures.fault)
 
 pub returns-then-breaks-clause-fault : goal.returns-then-breaks-clause-fault
 returns-then-breaks-clause-fault c =

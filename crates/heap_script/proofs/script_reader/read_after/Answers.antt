@@ -1,6 +1,7 @@
 use Rattle.std.proofs.Common.{◌≡◌, ℕ, ◌+◌, ◌<◌, ◌∷◌, List, length, drop, ap, sym, ◌∙◌, refl, arith}
 use Rattle.std.proofs.lemmas.List.{drop_all}
 use Rattle.gc_graph.specs.Words.{lines_of}
+use Rattle.gc_graph.specs.Script.{version_of}
 use Rattle.heap_script.specs.declared.past.Past.{Past}
 use Rattle.line_words.specs.Cursor.{first_line, line_words, lines_after}
 use Rattle.heap_script.specs.Reading.{fault_with}
@@ -23,7 +24,7 @@ loop-at-preserved c =
       read_lines = n + 1;
       left = rest_is tail (lines_after (drop at bytes)) n line here
           ∙ c.in-Ok.ensures.end.same ∙ sym c.next_line-at.ensures.lines;
-      read = read_more c.args.callbacks tail (lines_after (drop at bytes)) n line c.loop-at.kept c.keep_line.new.kept (line_words (drop at bytes))
+      read = read_more (version_of (first_line bytes)) c.args.callbacks tail (lines_after (drop at bytes)) n line c.loop-at.kept c.keep_line.new.kept (line_words (drop at bytes))
           c.loop-at.invariant.read here refl c.in-Ok.ensures.kept;
     }
 
