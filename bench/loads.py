@@ -44,8 +44,9 @@ class Load(NamedTuple):
         return self._replace(lines=self.lines + list(lines))
 
     def script(self):
+        version = 2 if any(" weak " in fields for fields in self.types) else 1
         types = ["type " + fields for fields in self.types]
-        return ("\n".join(["oilpan 1", *types, *self.lines]) + "\n").encode()
+        return ("\n".join([f"oilpan {version}", *types, *self.lines]) + "\n").encode()
 
     def options(self):
         return ["--pages", str(self.pages), "--page-words", str(self.page_words), *self.words]
@@ -397,6 +398,23 @@ def prefinalizers_read(count):
     load = prefinalizers(count).then(COLLECTION)
     tells = {**load.tells, "prefinalise ": 2 * count, f"word {count}": 1}
     return load.then("word 0 1")._replace(tells=tells)
+
+
+def weak_callbacks(count, types):
+    """Holders in a list, each of which has a weak field of its own object. These objects die, and whoever has a
+    weak callback then adds 1 to a word of an object that lives."""
+    lines = ["new 0 0"]
+    for number in range(count):
+        newest = 1 + number % 2
+        lines += [f"new {newest} 1", f"set {newest} 0 0", f"set {newest} 2 {3 - newest}", "new 3 2", f"set {newest} 1 3"]
+    pages = pages_for(count + 2, 5) + pages_for(count, 2) + 1
+    return Load(types, lines + ["drop 3"], {"full": 0, "refused": 0}, pages)
+
+
+def weak_callbacks_read(count, types):
+    """After their collection: each added 1."""
+    load = weak_callbacks(count, types).then(COLLECTION)
+    return load.then("word 0 1")._replace(tells={**load.tells, "weakcall ": count, f"word {count}": 1})
 
 
 def small_pages(pages):

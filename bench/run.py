@@ -50,6 +50,7 @@ PAIR_BAR = 130
 SWEPT_WORD_BAR = 12
 FINALISED_BAR = 200
 PREFINALISED_BAR = 500
+CALLED_BACK_BAR = 500
 STACK_WORD_BAR = 250
 LAZY_NEW_BAR = 1000
 STEP = 1000
@@ -470,6 +471,19 @@ class Bench:
         tell("prefinalizers_instructions_per_line", costs[0] / (2 * self.count), PREFINALISED_BAR)
         tell("prefinalizers_instructions_ratio", costs[1] / costs[0], RATIO_BAR)
 
+    def weak_callbacks(self):
+        """What a weak callback costs, with its line, over a collection of the same objects without them."""
+        plain, called = ["SP", "SWS", "-"], ["SP", "SWS weak 2", "-"]
+        costs = []
+        for count in (self.count, 2 * self.count):
+            Script(self.folder, loads.weak_callbacks_read(count, called)).check()
+            more = [self.instructions(load.then(COLLECTION)) - self.instructions(load)
+                    for load in (loads.weak_callbacks(count, types) for types in (plain, called))]
+            costs.append(more[1] - more[0])
+        tell = self.figures.tell
+        tell("weak_callbacks_instructions_per_call", costs[0] / self.count, CALLED_BACK_BAR)
+        tell("weak_callbacks_instructions_ratio", costs[1] / costs[0], RATIO_BAR)
+
     def stack(self):
         """What a collection costs for each word of a stack, into pages full of small objects."""
         pages = max(1, min(1024, self.count // 40))
@@ -532,6 +546,7 @@ def main():
             bench.weak_fields()
             bench.pairs()
             bench.prefinalizers()
+            bench.weak_callbacks()
             bench.stack()
             bench.lazy_sweeps(bench.sweeps())
             by_face = face.tell(bench.figures, bench.count)
